@@ -1,0 +1,10 @@
+pub mod Sets
+pub mod Derivations
+pub mod Examples
+pub mod Begins
+pub mod Parts
+pub mod Laws
+pub mod Parsing
+pub mod Languages
+pub mod Exactness
+pub mod Reading

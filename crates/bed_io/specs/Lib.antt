@@ -1,0 +1,9 @@
+pub mod Counts
+pub mod Calls
+pub mod Files
+pub mod Sink
+pub mod Host
+pub mod Folder
+pub mod MemFiles
+pub mod CalmFiles
+pub mod MemSink

@@ -1,0 +1,4 @@
+pub mod MarkLaws
+pub mod NumberLaws
+pub mod NumberTokens
+pub mod ScanLaws

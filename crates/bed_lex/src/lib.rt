@@ -1,0 +1,10 @@
+//! The tokens of a text.
+#![tactic(auto)]
+
+mod front;
+mod lexing;
+mod token;
+
+pub use front::Front;
+pub use lexing::{Scanned, has_one_scan, has_word_numbers, scan, takes_longest_mark, tokens};
+pub use token::{Kind, LexError, MARKS, Token, WORDS};
