@@ -1,0 +1,17 @@
+pub mod Parts
+pub mod Cells
+pub mod Facts
+pub mod Assertions
+pub mod Frames
+pub mod Runs
+pub mod Sound
+pub mod Prelude
+pub mod Returns
+pub mod Linking
+pub mod ReturnModules
+pub mod Scopes
+pub mod Declarations
+pub mod Instances
+pub mod Examples
+pub mod Laws
+pub mod Comparisons

@@ -1,0 +1,58 @@
+//! Laws of the definitions. Each function here does nothing: its contract is a law, for every memory,
+//! assertion and program.
+
+ghost use Rattle.bed_sat.specs.Laws.{PartsCommute, PartsAssociate, PartsCancel, DeeperIsTrue, PartIsRead, CellIsStored, SlotIsStored, SlotIsRead, RowSplits, RowsJoin, BlocksAreSmall, ScopeDecides, PlacesAreAside, SignaturesAreAside, MoreIsDeclared, SubstitutionAgrees, InstancesAgree, RunsBegin, TurnsKeepStates, StepsAreUnique, ReturnsAreSound};
+
+/// Disjoint parts: their order and their grouping don't matter, and a rest is unique.
+pub fn parts()
+    ensures commute { PartsCommute }
+    ensures associate { PartsAssociate }
+    ensures cancel { PartsCancel }
+{}
+
+/// Words in memory: what a part has is read from the whole, and a store to a part keeps the others.
+pub fn words()
+    ensures read { PartIsRead }
+    ensures stored { CellIsStored }
+{}
+
+/// Words in a row, as frames and blocks have them: their words are read and stored in place, rows
+/// split and join, and none has more than 2^30 words.
+pub fn rows()
+    ensures read { SlotIsRead }
+    ensures stored { SlotIsStored }
+    ensures split { RowSplits }
+    ensures join { RowsJoin }
+    ensures small { BlocksAreSmall }
+{}
+
+/// The truth of an assertion: it stays at more depth of unfolding and with more declarations, and
+/// depends on the variables in its scope alone, and on no place in a text. Nor does it matter where a
+/// signature stands.
+pub fn truth()
+    ensures deeper { DeeperIsTrue }
+    ensures declared { MoreIsDeclared }
+    ensures scope { ScopeDecides }
+    ensures places { PlacesAreAside }
+    ensures signatures { SignaturesAreAside }
+{}
+
+/// Substitution: terms in place of variables do what setting the variables to their values does, for
+/// one variable in a word, and for all variables at once in the terms of an assertion.
+pub fn substitution()
+    ensures word { SubstitutionAgrees }
+    ensures terms { InstancesAgree }
+{}
+
+/// Runs: their beginnings are runs, each turn leads from a state to a state, and a step is unique.
+pub fn runs()
+    ensures beginnings { RunsBegin }
+    ensures states { TurnsKeepStates }
+    ensures unique { StepsAreUnique }
+{}
+
+/// Code of functions that only return a number or an argument, with the signature that says so, is
+/// sound beside every outside.
+pub fn returns()
+    ensures { ReturnsAreSound }
+{}

@@ -1,0 +1,15 @@
+//! What assertions mean, when a state meets a specification, and when an image is sound.
+//!
+//! The definitions stand in `specs/`, each with its source. `Assertions` says when an assertion holds
+//! on a part of memory, `Frames` when a state meets a signature, `Runs` what a run is beside an
+//! outside, and `Sound` what is promised of every run. `laws` and `examples` show what they give.
+#![tactic(auto)]
+
+mod comparison;
+pub mod examples;
+pub mod laws;
+
+pub use comparison::eval_pure;
+
+#[cfg(test)]
+mod tests;

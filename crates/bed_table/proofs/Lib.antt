@@ -1,0 +1,6 @@
+pub mod SizeLaws
+pub mod CodeLemmas
+pub mod LayoutLemmas
+pub mod StepLemmas
+pub mod ReturnLaws
+pub mod Examples

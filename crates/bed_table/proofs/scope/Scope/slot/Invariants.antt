@@ -1,0 +1,14 @@
+use Rattle.std.proofs.Common.{◌≡◌, ◌+◌, ◌*◌, ◌<◌, ◌++◌, drop}
+use Rattle.bed_table.specs.Words.{wrap, number_of, slot}
+use Rattle.bed_table.specs.Seen.{names_in}
+use Rattle.bed_table.proofs.scope.Scope.slot.Given as goal
+
+abbrev pub invariant-loop-param : goal.invariant-loop-param
+invariant-loop-param l =
+    (l.slot < 4294967296)
+    × (wrap (l.slot + 4 * number_of (drop l.param-index l.self.params.now ++ l.self.locals.now) l.name.bytes) ≡ slot (names_in l.self) l.name.bytes)
+
+abbrev pub invariant-loop-local : goal.invariant-loop-local
+invariant-loop-local l =
+    (l.slot < 4294967296)
+    × (wrap (l.slot + 4 * number_of (drop l.local-index l.self.locals.now) l.name.bytes) ≡ slot (names_in l.self) l.name.bytes)

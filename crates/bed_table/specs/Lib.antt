@@ -1,0 +1,10 @@
+pub mod Words
+pub mod Pieces
+pub mod CodeTable
+pub mod ListLoops
+pub mod Code
+pub mod Layout
+pub mod Image
+pub mod Laws
+pub mod Seen
+pub mod ListParts

@@ -1,0 +1,60 @@
+//! Where the heads of loops stand.
+ghost use Rattle.std.specs.Prelude.{◌≡◌, ◌+◌, ◌≤◌, ◌++◌, map, OnOk};
+ghost use Rattle.bed_table.specs.Code.{kind_piece, body_piece};
+
+use crate::size::{
+    body_falls, jump_size, operand_size, small_body_size, small_kind_size, test_size,
+};
+use bed_lang::{Stmt, StmtKind};
+use std::alloc::AllocError;
+
+// Appends the addresses of the loop heads of a statement that begins at `at`.
+#[cycle(heads)]
+pub(crate) fn push_kind_heads(
+    out: &mut Vec<u64>,
+    at: u64,
+    kind: &StmtKind,
+) -> Result<(), AllocError>
+    requires { at + (kind_piece kind.now).size ≤ 4294967296 }
+    ensures { OnOk result (out.new.items ≡ out.old.items ++ map (λ h. h.address) ((kind_piece kind.now).heads at)) }
+{
+    match kind {
+        StmtKind::If { test, yes, no, .. } => {
+            let yes = yes.as_slice();
+            let no = no.as_slice();
+            let yes_at = at + test_size(test);
+            let no_at = yes_at + small_body_size(yes) + jump_size(body_falls(yes));
+            push_heads(out, yes_at, yes)?;
+            push_heads(out, no_at, no)
+        }
+        StmtKind::While { test, body, .. } => {
+            let body_at = at + test_size(test);
+            out.push(at)?;
+            push_heads(out, body_at, body.as_slice())
+        }
+        StmtKind::Find { key, body, .. } => {
+            let body_at = at + 63 + operand_size(key);
+            out.push(at + 12)?;
+            push_heads(out, body_at, body.as_slice())
+        }
+        StmtKind::Walk { body, .. } => {
+            out.push(at + 12)?;
+            push_heads(out, at + 49, body.as_slice())
+        }
+        _ => Ok(()),
+    }
+}
+
+// Appends those of statements, the first of which begins at `at`.
+#[cycle(heads)]
+pub(crate) fn push_heads(out: &mut Vec<u64>, at: u64, body: &[Stmt]) -> Result<(), AllocError>
+    requires { at + (body_piece body.now).size ≤ 4294967296 }
+    ensures { OnOk result (out.new.items ≡ out.old.items ++ map (λ h. h.address) ((body_piece body.now).heads at)) }
+{
+    let mut next = at;
+    for item in body {
+        push_kind_heads(out, next, &item.kind)?;
+        next += small_kind_size(&item.kind);
+    }
+    Ok(())
+}

@@ -1,0 +1,19 @@
+//! The bytes of images: the code table, the layout of functions and the image format.
+#![tactic(auto)]
+
+mod build;
+mod code;
+mod heads;
+mod laws;
+mod layout;
+mod put;
+mod rows;
+mod scope;
+mod size;
+mod symbols;
+#[cfg(test)]
+mod tests;
+
+pub use build::image;
+pub use laws::size_laws;
+pub use layout::code_length;
