@@ -1,0 +1,4 @@
+pub mod ClauseLaws
+pub mod FormLaws
+pub mod HeadlineLaws
+pub mod WorkLaws

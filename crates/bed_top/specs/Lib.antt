@@ -1,0 +1,9 @@
+pub mod Codes
+pub mod FirstForm
+pub mod FormReading
+pub mod Headline
+pub mod Lines
+pub mod Parts
+pub mod Run
+pub mod Words
+pub mod Work
