@@ -1,3 +1,4 @@
+pub mod Prelude
 pub mod Same
 pub mod Substitution
 pub mod Values

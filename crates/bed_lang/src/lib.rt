@@ -2,6 +2,7 @@
 #![tactic(auto)]
 
 mod condition;
+mod limit;
 mod logic;
 mod module;
 mod statement;
@@ -9,6 +10,7 @@ mod tree;
 mod word;
 
 pub use condition::{Cond, Decls, Goal, Placed};
+pub use limit::Which;
 pub use logic::{Arg, Assertion, Atom, Bind, Pure, Term};
 pub use module::{
     Action, Function, Hint, Import, Join, Module, Op, Operand, Place, Predicate, Rel, Signature,

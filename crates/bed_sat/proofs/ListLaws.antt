@@ -8,7 +8,7 @@ use Rattle.bed_lang.proofs.ValueLaws.{value-Number, value-Var, value-Add, list_v
 use Rattle.bed_sat.specs.Parts.{Joins}
 use Rattle.bed_sat.specs.Cells.{IsCell}
 use Rattle.bed_sat.specs.Assertions.{WordValue, ListValue, blank, set_params, World, predicate_of, meaning}
-use Rattle.bed_sat.specs.Prelude.{name, word, sequence, lseg, empty_segment, longer_segment}
+use Rattle.bed_lang.specs.Prelude.{name, word, sequence, lseg, empty_segment, longer_segment}
 use Rattle.bed_sat.proofs.PartLaws.{joins_comm, to_empty}
 
 module _ (w : World) (is : predicate_of w.decls (codes "lseg") ≡ Some lseg) where

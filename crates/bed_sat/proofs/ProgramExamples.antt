@@ -16,7 +16,7 @@ use Rattle.bed_sat.specs.Parts.{Meet, Joins}
 use Rattle.bed_sat.specs.Cells.{IsCell, AreWordsAt, IsBlock}
 use Rattle.bed_sat.specs.Assertions.{blank, Holds}
 use Rattle.bed_sat.specs.Frames.{Enters}
-use Rattle.bed_sat.specs.Prelude.{name, word}
+use Rattle.bed_lang.specs.Prelude.{name, word}
 use Rattle.bed_sat.specs.Runs.{Steps, IsRun}
 use Rattle.bed_sat.specs.Sound.{FunctionAt, world_of, IsOutsideOf, IsStart}
 use Rattle.bed_sat.specs.Returns.{OfNumber, OfArgument, IsReturnProgram}

@@ -17,7 +17,7 @@ use Rattle.bed_lang.specs.Values.{Values}
 use Rattle.bed_sat.specs.Parts.{union}
 use Rattle.bed_sat.specs.Cells.{IsBlock}
 use Rattle.bed_sat.specs.Assertions.{World, blank, Holds}
-use Rattle.bed_sat.specs.Prelude.{name, word, bind, segment, prelude}
+use Rattle.bed_lang.specs.Prelude.{name, word, bind, segment, prelude}
 use Rattle.bed_sat.specs.Runs.{Outside, IsHonest}
 use Rattle.bed_sat.specs.Sound.{Linked, IsStart, IsSound}
 

@@ -5,7 +5,6 @@ pub mod Assertions
 pub mod Frames
 pub mod Runs
 pub mod Sound
-pub mod Prelude
 pub mod Returns
 pub mod Linking
 pub mod ReturnModules

@@ -9,7 +9,7 @@ use Rattle.bed_lang.specs.declared.module.Module.{Module}
 use Rattle.bed_lang.specs.declared.condition.Decls.{Decls}
 use Rattle.bed_table.specs.Pieces.{Head}
 use Rattle.bed_table.specs.Layout.{Placed, placed, heads_at, label_address, outside_imports, code}
-use Rattle.bed_sat.specs.Prelude.{prelude}
+use Rattle.bed_lang.specs.Prelude.{prelude}
 use Rattle.bed_sat.specs.Sound.{FunctionAt, LoopAt, ImportAt, Linked}
 
 -- the signatures, predicates, labels and imports of all modules, in their order
