@@ -1,0 +1,14 @@
+-- What holds of every text.
+use Rattle.std.specs.Prelude.{◌≡◌, ℕ, List, Err}
+use Rattle.bed_lang.specs.declared.module.Module as modules
+use Rattle.bed_read.specs.declared.whole.ReadError.{ReadError}
+use Rattle.bed_read.specs.declared.whole.ReadError.TheVariants.{Memory}
+use Rattle.bed_read.specs.Reading.{IsModule, ReadsModule}
+
+-- a text is that of one module at most
+abbrev pub OneModule : List ℕ → Type 0
+OneModule text = (m n : modules.Module) → IsModule text m → IsModule text n → m ≡ n
+
+-- a text of a module has no refusal
+abbrev pub IsNotRefused : List ℕ → Type 0
+IsNotRefused text = (m : modules.Module) (e : ReadError) → IsModule text m → ReadsModule text (Err e) → e ≡ Memory

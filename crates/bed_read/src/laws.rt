@@ -1,0 +1,12 @@
+//! What holds of every text. Each function here does nothing: its contract is a law.
+ghost use Rattle.bed_read.specs.Laws.{IsNotRefused, OneModule};
+
+/// A text is that of one module at most.
+pub fn has_one_module(_text: &[u8])
+    ensures { OneModule _text.now }
+{}
+
+/// A text of a module has no refusal.
+pub fn is_not_refused(_text: &[u8])
+    ensures { IsNotRefused _text.now }
+{}

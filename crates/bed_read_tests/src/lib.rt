@@ -1,0 +1,5 @@
+//! Tests of the reader: texts of modules with what reading them gives.
+#![tactic(auto)]
+
+#[cfg(test)]
+mod tests;
