@@ -1,0 +1,5 @@
+//! Tests of the printer: texts of modules with what is printed of what is read from them.
+#![tactic(auto)]
+
+#[cfg(test)]
+mod tests;
