@@ -1,0 +1,9 @@
+use Rattle.std.proofs.Common.{map, string_bytes, sym, ◌∙◌}
+use Rattle.bed_words.proofs.OptionLaws.{is_given-never}
+use Rattle.bed_words.proofs.LoopLaws.{times-short}
+use Rattle.bed_words.proofs.options.given.Goals as goal
+
+pub returns : goal.returns
+returns c =
+    sym (c.loop-rest.invariant
+    ∙ is_given-never c.args.name.now (map string_bytes c.loop-rest.rest.now) (times-short string_bytes c.args.name.now c.loop-rest.rest.now c.in_default.len_below))
