@@ -1,0 +1,9 @@
+pub mod BareLaws
+pub mod NotedLemmas
+pub mod ResolvedLemmas
+pub mod RuleLaws
+pub mod ScopeLemmas
+pub mod ScopedLemmas
+pub mod StatementLemmas
+pub mod TableLemmas
+pub mod TermLemmas

@@ -1,0 +1,12 @@
+pub mod Bare
+pub mod Declarations
+pub mod Faults
+pub mod InScope
+pub mod Laws
+pub mod Limits
+pub mod Modules
+pub mod Resolved
+pub mod Statements
+pub mod Tables
+pub mod Terms
+pub mod Views

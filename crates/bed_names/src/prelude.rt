@@ -1,0 +1,188 @@
+//! The two predicates that every module has.
+ghost use Rattle.std.specs.Prelude.{◌≡◌, ◌∷◌, [], codes, IfOk};
+ghost use Rattle.bed_lang.specs.Prelude.{name as name_of, word as word_of, sequence as sequence_of, bind as bind_of, segment as segment_of, empty_segment as the_empty_segment, longer_segment as the_longer_segment, lseg as the_lseg, lst as the_lst, prelude as the_prelude};
+ghost use Rattle.bed_lang.specs.declared.logic.Atom.TheVariants as atom;
+ghost use Rattle.bed_lang.specs.declared.logic.Pure.TheVariants as pure;
+ghost use Rattle.bed_lang.specs.declared.word.Seq.{Cons};
+ghost use Rattle.bed_lang.specs.declared.word.Word.{Add, Number};
+
+use bed_lang::{
+    Arg, Assertion, Atom, Bind, Box, List, Name, Predicate, Pure, Seq, Sort, Term, Var, Word,
+};
+use std::alloc::{AllocError, Global};
+
+fn name(alloc: Global, bytes: &[u8]) -> Result<Name, AllocError>
+    ensures { IfOk result (λ x. x ≡ name_of bytes.now) }
+{
+    Ok(Name {
+        bytes: List::from_slice(alloc, bytes)?,
+        at: 0,
+    })
+}
+
+fn word(alloc: Global, bytes: &[u8]) -> Result<Word, AllocError>
+    ensures { IfOk result (λ w. w ≡ word_of bytes.now) }
+{
+    Ok(Word::Var(Var::Named(name(alloc, bytes)?)))
+}
+
+fn sequence(alloc: Global, bytes: &[u8]) -> Result<Seq, AllocError>
+    ensures { IfOk result (λ s. s ≡ sequence_of bytes.now) }
+{
+    Ok(Seq::Var(Var::Named(name(alloc, bytes)?)))
+}
+
+fn bind(alloc: Global, bytes: &[u8], sort: Sort) -> Result<Bind, AllocError>
+    ensures { IfOk result (λ b. b ≡ bind_of bytes.now sort) }
+{
+    Ok(Bind {
+        name: name(alloc, bytes)?,
+        sort,
+    })
+}
+
+// A list of one item, of two and of three.
+fn one<T: Drop>(alloc: Global, a: T) -> Result<List<T>, AllocError>
+    ensures { IfOk result (λ r. r ≡ a ∷ []) }
+{
+    let mut out = List::new(alloc);
+    out.push(a)?;
+    Ok(out)
+}
+
+fn two<T: Drop>(alloc: Global, a: T, b: T) -> Result<List<T>, AllocError>
+    ensures { IfOk result (λ r. r ≡ a ∷ b ∷ []) }
+{
+    let mut out = one(alloc, a)?;
+    out.push(b)?;
+    Ok(out)
+}
+
+fn three<T: Drop>(alloc: Global, a: T, b: T, c: T) -> Result<List<T>, AllocError>
+    ensures { IfOk result (λ r. r ≡ a ∷ b ∷ c ∷ []) }
+{
+    let mut out = two(alloc, a, b)?;
+    out.push(c)?;
+    Ok(out)
+}
+
+// lseg(p, q, s)
+fn segment(alloc: Global, p: Word, q: Word, s: Seq) -> Result<Term, AllocError>
+    ensures { IfOk result (λ t. t ≡ segment_of p q s) }
+{
+    let args = three(alloc, Arg::Word(0, p), Arg::Word(0, q), Arg::Seq(0, s))?;
+    Ok(Term::Atom(Atom::Pred(name(alloc, b"lseg")?, args)))
+}
+
+fn empty_segment(alloc: Global) -> Result<Assertion, AllocError>
+    ensures { IfOk result (λ a. a ≡ the_empty_segment) }
+{
+    let is_empty = Pure::Equal(word(alloc, b"p")?, word(alloc, b"q")?);
+    let has_none = Pure::Same(sequence(alloc, b"s")?, Seq::Nil);
+    Ok(Assertion {
+        at: 0,
+        binders: List::new(alloc),
+        terms: two(alloc, Term::Pure(is_empty), Term::Pure(has_none))?,
+    })
+}
+
+// [s == cons(v, t)]
+fn begins(alloc: Global) -> Result<Pure, AllocError>
+    ensures { IfOk result (λ p. p ≡ pure.Same (sequence_of (codes "s")) (Cons (word_of (codes "v")) (sequence_of (codes "t")))) }
+{
+    let first = Box::new(alloc, word(alloc, b"v")?)?;
+    let rest = Box::new(alloc, sequence(alloc, b"t")?)?;
+    Ok(Pure::Same(sequence(alloc, b"s")?, Seq::Cons(first, rest)))
+}
+
+// p + 4 |-> n
+fn next_cell(alloc: Global) -> Result<Atom, AllocError>
+    ensures { IfOk result (λ a. a ≡ atom.Cell (Add (word_of (codes "p")) (Number 4)) (word_of (codes "n"))) }
+{
+    let base = Box::new(alloc, word(alloc, b"p")?)?;
+    let four = Box::new(alloc, Word::Number(4))?;
+    Ok(Atom::Cell(Word::Add(base, four), word(alloc, b"n")?))
+}
+
+fn longer_binders(alloc: Global) -> Result<List<Bind>, AllocError>
+    ensures { IfOk result (λ bs. bs ≡ the_longer_segment.binders) }
+{
+    let value = bind(alloc, b"v", Sort::Word)?;
+    let next = bind(alloc, b"n", Sort::Word)?;
+    let rest = bind(alloc, b"t", Sort::Seq)?;
+    three(alloc, value, next, rest)
+}
+
+fn longer_terms(alloc: Global) -> Result<List<Term>, AllocError>
+    ensures { IfOk result (λ ts. ts ≡ the_longer_segment.terms) }
+{
+    let is_node = Pure::Unequal(word(alloc, b"p")?, Word::Number(0));
+    let begins = begins(alloc)?;
+    let value = Atom::Cell(word(alloc, b"p")?, word(alloc, b"v")?);
+    let next = next_cell(alloc)?;
+    let rest = segment(
+        alloc,
+        word(alloc, b"n")?,
+        word(alloc, b"q")?,
+        sequence(alloc, b"t")?,
+    )?;
+    let mut terms = three(
+        alloc,
+        Term::Pure(is_node),
+        Term::Pure(begins),
+        Term::Atom(value),
+    )?;
+    terms.push(Term::Atom(next))?;
+    terms.push(rest)?;
+    Ok(terms)
+}
+
+fn lseg(alloc: Global) -> Result<Predicate, AllocError>
+    ensures { IfOk result (λ p. p ≡ the_lseg) }
+{
+    let first = bind(alloc, b"p", Sort::Word)?;
+    let last = bind(alloc, b"q", Sort::Word)?;
+    let elements = bind(alloc, b"s", Sort::Seq)?;
+    let longer = Assertion {
+        at: 0,
+        binders: longer_binders(alloc)?,
+        terms: longer_terms(alloc)?,
+    };
+    Ok(Predicate {
+        name: name(alloc, b"lseg")?,
+        params: three(alloc, first, last, elements)?,
+        cases: two(alloc, empty_segment(alloc)?, longer)?,
+    })
+}
+
+fn lst(alloc: Global) -> Result<Predicate, AllocError>
+    ensures { IfOk result (λ p. p ≡ the_lst) }
+{
+    let first = bind(alloc, b"p", Sort::Word)?;
+    let elements = bind(alloc, b"s", Sort::Seq)?;
+    let all = segment(
+        alloc,
+        word(alloc, b"p")?,
+        Word::Number(0),
+        sequence(alloc, b"s")?,
+    )?;
+    let case = Assertion {
+        at: 0,
+        binders: List::new(alloc),
+        terms: one(alloc, all)?,
+    };
+    Ok(Predicate {
+        name: name(alloc, b"lst")?,
+        params: two(alloc, first, elements)?,
+        cases: one(alloc, case)?,
+    })
+}
+
+/// The prelude: list segments and lists.
+pub(crate) fn prelude(alloc: Global) -> Result<List<Predicate>, AllocError>
+    ensures { IfOk result (λ ps. ps ≡ the_prelude) }
+{
+    let segments = lseg(alloc)?;
+    let lists = lst(alloc)?;
+    two(alloc, segments, lists)
+}
