@@ -30,8 +30,8 @@ fn over_real_files(rt: HostRuntime) -> Result<(), Fail> {
         ),
         (
             ["link", "seven.img", "empty.bed"],
-            15,
-            b"not built: empty.bed\n",
+            3,
+            b"syntax: empty.bed 1:1 token\n",
         ),
     ];
     for (case, code, line) in &cases {

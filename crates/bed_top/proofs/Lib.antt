@@ -1,4 +1,7 @@
 pub mod ClauseLaws
-pub mod FormLaws
-pub mod HeadlineLaws
-pub mod WorkLaws
+pub mod DueLaws
+pub mod ReportLaws
+pub mod ReturnLaws
+pub mod StageLaws
+pub mod TextLaws
+pub mod TreeLaws

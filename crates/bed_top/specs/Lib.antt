@@ -1,9 +1,9 @@
 pub mod Codes
-pub mod FirstForm
-pub mod FormReading
-pub mod Headline
-pub mod Lines
-pub mod Parts
-pub mod Run
-pub mod Words
+pub mod Places
+pub mod Returns
+pub mod Causes
+pub mod Files
 pub mod Work
+pub mod Lines
+pub mod Outcomes
+pub mod Promises

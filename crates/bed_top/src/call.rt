@@ -1,35 +1,47 @@
 //! The top call.
-ghost use Rattle.std.specs.Prelude.{◌≡◌, ◌≤◌, ℕ, All, length, map, string_bytes};
-ghost use Rattle.bed_io.specs.Files.{FilesState};
-ghost use Rattle.bed_top.specs.Lines.{Reports};
-ghost use Rattle.bed_top.specs.Headline.{Completes, Faults, Headline, Usages};
-ghost use Rattle.bed_top.specs.Run.{Ran};
-ghost use Rattle.bed_top.specs.Work.{Counts, IsOfWork, Leaves};
+ghost use Rattle.std.specs.Prelude.{◌≡◌, ◌≤◌, ◌<◌, ℕ, List, [], All, length, map, string_bytes};
+ghost use Rattle.bed_words.specs.declared.command.Job.{Job};
+ghost use Rattle.bed_top.specs.Lines.{Reports, SinkGoesOn};
+ghost use Rattle.bed_top.specs.Outcomes.{texts_of, Counts, JobDone};
+ghost use Rattle.bed_top.specs.Files.{Leaves};
+ghost use Rattle.bed_top.specs.Promises.{Exactly, Faults, Headline, Ran, Words};
 
+use crate::asked::asked;
+use crate::build::{Outcome, build, refused};
 use crate::lines::{MEMORY, line_of};
 use crate::status::Status;
-use crate::work::{Outcome, work};
-use bed_io::{Failed, Files, Host, Sink};
+use crate::texts::{has_long, read_texts};
+use bed_io::{Failed, FileRefusal, Files, Host, Sink};
+use bed_lang::{List, Which};
+use bed_words::Job;
 use std::alloc::Global;
 
-/// Puts the line of a status.
-fn report<K: Sink>(
-    alloc: Global,
-    words: &[String],
-    text: &[u8],
-    due: Outcome,
-    out: &mut K,
-) -> Status
-    requires work { IsOfWork due.status }
-    requires counted { Counts text.now due.status due.functions due.bytes }
-    ensures { Reports (map string_bytes words.now) text.now (K.seen out.old) (K.seen out.new) due.status result }
+/// Reads the texts of a link, and does what they come to.
+fn work<F: Files>(alloc: Global, job: &Job, files: &mut F, texts: &mut Vec<Vec<u8>>) -> Outcome
+    requires some { 1 ≤ length job.now.modules }
+    requires few { length job.now.modules ≤ 64 }
+    requires none { texts.old.items ≡ [] }
+    ensures { JobDone job.now (texts_of texts.new.items) result.numbers (F.seen files.old) (F.seen files.new) result.status }
 {
-    let Outcome {
-        status,
-        functions,
-        bytes,
-    } = due;
-    match line_of(alloc, words, &status, functions, bytes) {
+    match read_texts(alloc, files, job.modules.as_slice(), texts) {
+        Ok(()) => {
+            if has_long(texts) {
+                return refused(Status::Limit { which: Which::Text });
+            }
+            build(alloc, job, files, texts)
+        }
+        Err(FileRefusal::Failed) => refused(Status::ReadFault),
+        Err(FileRefusal::Memory) => refused(Status::Memory),
+    }
+}
+
+/// Puts the line of a status, where `count` texts were read.
+fn report<K: Sink>(alloc: Global, job: &Job, count: usize, due: Outcome, out: &mut K) -> Status
+    ensures reports { (texts : List (List ℕ)) → length texts ≡ count → Counts texts due.status due.numbers → Reports job.now texts (K.seen out.old) (K.seen out.new) due.status result }
+    ensures goes_on { SinkGoesOn (K.seen out.old) (K.seen out.new) }
+{
+    let Outcome { status, numbers } = due;
+    match line_of(alloc, job, count, &status, numbers) {
         Ok(line) => match out.put(&line) {
             Ok(()) => status,
             Err(Failed) => Status::WriteFault { sink: true },
@@ -41,22 +53,42 @@ fn report<K: Sink>(
     }
 }
 
+/// A job of no files, for words that ask for none.
+fn no_job(alloc: Global) -> Job
+    ensures { result.modules ≡ [] }
+{
+    Job {
+        base: 0,
+        imports: List::new(alloc),
+        proof: None,
+        write_proof: None,
+        out: None,
+        modules: List::new(alloc),
+    }
+}
+
 /// Does the work, and puts its line.
 fn run<F: Files, K: Sink>(alloc: Global, words: &[String], files: &mut F, out: &mut K) -> Status
     ensures { Ran (map string_bytes words.now) (F.seen files.old) (F.seen files.new) (K.seen out.old) (K.seen out.new) result }
 {
-    let mut text = Vec::new(alloc);
-    let due = work(alloc, words, files, &mut text);
-    report(alloc, words, &text, due, out)
+    match asked(alloc, words) {
+        Ok(job) => {
+            let mut texts = Vec::new(alloc);
+            let due = work(alloc, &job, files, &mut texts);
+            report(alloc, &job, texts.len(), due, out)
+        }
+        Err(status) => report(alloc, &no_job(alloc), 0, refused(status), out),
+    }
 }
 
 /// Does what the words ask, over these files, and puts one line on the sink.
 ///
-/// The command is `link OUT FILE`: the module whose text is in FILE is read and its condition is
-/// judged, and where it holds the image is written to OUT.
+/// The command that is built is `link OUT FILE`: the module whose text is in FILE is read, its
+/// names and its conditions are judged, and where they hold the image is written to OUT. Other
+/// commands, options and modules are answered by their own refusals first, and then as not built.
 ///
 /// `ran` is the whole: what was read, the status of the work with its cause, and what was put. The
-/// other clauses are read off it: what a link that is done promises, when it is done, and when
+/// other clauses are read off it: what a link that is done promises, which answer is due, when
 /// words are refused and faults come, and which files are as before. Each host's log may have at
 /// most 1,000,000,000 entries.
 pub fn top<F: Files, K: Sink>(
@@ -69,8 +101,8 @@ pub fn top<F: Files, K: Sink>(
     requires { All (λ h. length ((⟦<dyn Host as Host>⟧ h.vtable).seen h.value).log ≤ 1000000000) hosts.items }
     ensures ran { Ran (map string_bytes words.now) (F.seen files.old) (F.seen files.new) (K.seen out.old) (K.seen out.new) result }
     ensures headline { Headline (map string_bytes words.now) (F.seen files.old) (F.seen files.new) result }
-    ensures completes { Completes (map string_bytes words.now) (F.seen files.old) (F.seen files.new) (K.seen out.old) (K.seen out.new) result }
-    ensures usage { Usages (map string_bytes words.now) result }
+    ensures exact { Exactly (map string_bytes words.now) (F.seen files.old) (F.seen files.new) (K.seen out.old) (K.seen out.new) result }
+    ensures words { Words (map string_bytes words.now) result }
     ensures faults { Faults (F.seen files.old) (F.seen files.new) (K.seen out.old) (K.seen out.new) result }
     ensures leaves { Leaves (map string_bytes words.now) (F.seen files.old) (F.seen files.new) result }
 {

@@ -1,23 +1,31 @@
-use Rattle.std.proofs.Common.{map, subst, sym, List, ℕ}
-use Rattle.std.specs.Prelude.{string_bytes}
-use Rattle.bed_top.specs.Work.{Caused}
-use Rattle.bed_top.specs.Run.{Ran}
+use Rattle.std.proofs.Common.{[], refl, sym, ◌∙◌, subst}
+use Rattle.bed_top.specs.Outcomes.{texts_of, IsRefused}
+use Rattle.bed_top.proofs.ReportLaws.{job_worked, job_counts, nothing_done, refused_counts, texts_counted}
 use Rattle.bed_top.proofs.call.run.Goals as goal
 
-pub returns : goal.returns
-returns g c =
-    let words = map string_bytes c.args.words.now in
-    let old = g.F.Files.seen c.args.files.now in
-    let new = g.F.Files.seen c.work-due.new.files in
-    let w = c.work-due.ensures in
-    let ran : Ran words old new (g.K.Sink.seen c.args.out.now) (g.K.Sink.seen c.report.new.out) c.report.result = record {
-      text = c.deref.result.now;
-      due = c.work-due.result.status;
-      worked = record {
-        caused = subst (λ (t : List ℕ). Caused words t old new c.work-due.result.status) (sym c.deref.ensures.value) w.caused;
-        leaves = w.leaves;
-        goes_on = w.goes_on;
-        calm = w.calm;
-      };
-      reports = c.report.ensures;
-    } in ran
+pub returns-in-Ok : goal.returns-in-Ok
+returns-in-Ok g c = record {
+  job = c.in-Ok.job;
+  named = λ none. absurd (none c.in-Ok.job c.in-Ok.ensures.ok);
+  texts = texts_of c.work-due.new.texts.items;
+  due = c.work-due.result.status;
+  worked = job_worked _ c.in-Ok.job (texts_of c.work-due.new.texts.items) c.work-due.result.numbers (g.F.Files.seen c.args.files.now)
+      (g.F.Files.seen c.work-due.new.files) c.work-due.result.status c.in-Ok.ensures.ok (g.met.F.Files.calm_tells c.args.files.now) c.work-due.ensures;
+  reports = c.report.ensures.reports (texts_of c.work-due.new.texts.items)
+      (texts_counted c.work-due.new.texts ∙ sym c.len.ensures)
+      (job_counts _ c.in-Ok.job c.in-Ok.ensures.ok _ _ (texts_of c.work-due.new.texts.items) c.work-due.result.numbers c.work-due.result.status c.work-due.ensures.caused);
+  goes_on = c.report.ensures.goes_on;
+}
+
+pub returns-in-Err : goal.returns-in-Err
+returns-in-Err g c = record {
+  job = c.no_job.result;
+  named = λ none. c.no_job.ensures;
+  texts = [];
+  due = c.refused.result.status;
+  worked = nothing_done _ c.no_job.result (g.F.Files.seen c.args.files.now) c.refused.result.status
+      (subst (IsRefused _) (sym c.refused.ensures) c.in-Err.ensures.refused);
+  reports = c.report-in-Err.ensures.reports [] refl (refused_counts _ c.no_job.result (g.F.Files.seen c.args.files.now) c.refused.result.status _
+      (subst (IsRefused _) (sym c.refused.ensures) c.in-Err.ensures.refused));
+  goes_on = c.report-in-Err.ensures.goes_on;
+}
