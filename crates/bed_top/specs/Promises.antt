@@ -1,6 +1,8 @@
 -- What the top call promises: the whole of a run, and what is read off it.
-use Rattle.std.specs.Prelude.{◌≡◌, ◌⊎◌, ℕ, IsTrue, true, false, List, [], map, Some}
+use Rattle.std.specs.Prelude.{◌≡◌, ◌⊎◌, ℕ, ◌<◌, IsTrue, true, false, List, [], map, Some}
+use Rattle.std.specs.List.{list_any}
 use Rattle.bed_lang.specs.declared.limit.Which.{Which}
+use Rattle.bed_lang.specs.declared.limit.Which.TheVariants as which
 use Rattle.bed_lang.specs.declared.module.Module.{Module}
 use Rattle.bed_table.specs.Image.{image}
 use Rattle.bed_io.specs.Counts.{Rose}
@@ -10,7 +12,7 @@ use Rattle.bed_sat.specs.Linking.{linked}
 use Rattle.bed_sat.specs.Sound.{IsSound}
 use Rattle.bed_words.specs.declared.command.Job.{Job}
 use Rattle.bed_words.specs.Usage.{IsUsage, PassesLimit}
-use Rattle.bed_top.specs.Causes.{Asks, AreModules, Due}
+use Rattle.bed_top.specs.Causes.{is_long, most_functions, function_count, Asks, AreModules, Due}
 use Rattle.bed_top.specs.Files.{out_file}
 use Rattle.bed_top.specs.Lines.{Reports, SinkGoesOn}
 use Rattle.bed_top.specs.Work.{base, Worked}
@@ -72,6 +74,15 @@ abbrev pub Exactly : List (List ℕ) → FilesState → FilesState → SinkState
 Exactly words old new sink_old sink_new result =
     IsTrue old.tells → NoFault old new sink_old sink_new → (job : Job) → (due : Status) → Due words job (contents old job) due
     → IsAlike due result ⊎ (result ≡ Memory)
+
+-- Where the files tell their contents and no count of faults rises: a text that is too long, and modules of too many functions,
+-- give their limits.
+pub record Counted (words : List (List ℕ)) (old new : FilesState) (sink_old sink_new : SinkState) (result : Status) : Type 0 where
+  pub text : IsTrue old.tells → NoFault old new sink_old sink_new → (job : Job) → Asks words job
+      → list_any is_long (contents old job) ≡ true → (result ≡ Limit which.Text) ⊎ (result ≡ Memory)
+  pub functions : IsTrue old.tells → NoFault old new sink_old sink_new → (job : Job) (ms : List Module) → Asks words job
+      → list_any is_long (contents old job) ≡ false → AreModules (contents old job) ms → most_functions < function_count ms
+      → (result ≡ Limit which.Functions) ⊎ (result ≡ Memory)
 
 -- the due status, but for want of memory and a fault of the sink
 abbrev pub Yields : Status → Status → Type 0
