@@ -2,6 +2,4 @@
 #![tactic(auto)]
 
 #[cfg(test)]
-mod names;
-#[cfg(test)]
 mod statuses;
