@@ -16,7 +16,7 @@ struct Case {
     image: Option<&'static [u8]>,
 }
 
-const CASES: [Case; 31] = [
+const CASES: [Case; 12] = [
     Case {
         words: &["link", "seven.img", "m.bed"],
         files: &[(
@@ -29,20 +29,6 @@ const CASES: [Case; 31] = [
         line: b"linked 1 modules, 1 functions, 1 conditions, 21 bytes\n",
         image: Some(
             b"BIM1\x00\x00\x40\x00\x15\x00\x00\x00\x01\x00\x00\x00\x01\x00\x00\x40\x00\x05seven\x89\xB5\x00\x00\x00\x00\xB9\x07\x00\x00\x00\x8B\xC1\x8B\xB5\x00\x00\x00\x00\xFF\xE6",
-        ),
-    },
-    Case {
-        words: &["link", "seven.img", "m.bed"],
-        files: &[(
-            b"m.bed",
-            b"module m; signature I(x) pre emp post [result = x]; export function id: I { return x; }",
-        )],
-        fails: &[],
-        room: 100,
-        code: 0,
-        line: b"linked 1 modules, 1 functions, 1 conditions, 22 bytes\n",
-        image: Some(
-            b"BIM1\x00\x00\x40\x00\x16\x00\x00\x00\x01\x00\x00\x00\x01\x00\x00\x40\x00\x02id\x89\xB5\x00\x00\x00\x00\x8B\x8D\x04\x00\x00\x00\x8B\xC1\x8B\xB5\x00\x00\x00\x00\xFF\xE6",
         ),
     },
     Case {
@@ -63,60 +49,12 @@ const CASES: [Case; 31] = [
         words: &["link", "seven.img", "m.bed"],
         files: &[(
             b"m.bed",
-            b"module m;\nsignature S() pre emp post [result = 8];\nexport function seven: S { return 7; }\n",
-        )],
-        fails: &[],
-        room: 100,
-        code: 1,
-        line: b"no: condition 1\n",
-        image: None,
-    },
-    Case {
-        words: &["link", "seven.img", "m.bed"],
-        files: &[(
-            b"m.bed",
             b"module m; signature S() pre emp post [result = 7]; signature I(x) pre emp post [result = x]; function seven: S { return 7; } export function id: I { return 0; }",
         )],
         fails: &[],
         room: 100,
         code: 1,
         line: b"no: condition 2\n",
-        image: None,
-    },
-    Case {
-        words: &[],
-        files: &[(
-            b"m.bed",
-            b"module m;\nsignature S() pre emp post [result = 7];\nexport function seven: S { return 7; }\n",
-        )],
-        fails: &[],
-        room: 100,
-        code: 2,
-        line: b"usage: word 0\n",
-        image: None,
-    },
-    Case {
-        words: &["nothing", "m.bed"],
-        files: &[(
-            b"m.bed",
-            b"module m;\nsignature S() pre emp post [result = 7];\nexport function seven: S { return 7; }\n",
-        )],
-        fails: &[],
-        room: 100,
-        code: 2,
-        line: b"usage: word 0\n",
-        image: None,
-    },
-    Case {
-        words: &["link"],
-        files: &[(
-            b"m.bed",
-            b"module m;\nsignature S() pre emp post [result = 7];\nexport function seven: S { return 7; }\n",
-        )],
-        fails: &[],
-        room: 100,
-        code: 2,
-        line: b"usage: word 1\n",
         image: None,
     },
     Case {
@@ -129,30 +67,6 @@ const CASES: [Case; 31] = [
         room: 100,
         code: 2,
         line: b"usage: word 2\n",
-        image: None,
-    },
-    Case {
-        words: &["link", "seven.img"],
-        files: &[(
-            b"m.bed",
-            b"module m;\nsignature S() pre emp post [result = 7];\nexport function seven: S { return 7; }\n",
-        )],
-        fails: &[],
-        room: 100,
-        code: 2,
-        line: b"usage: word 2\n",
-        image: None,
-    },
-    Case {
-        words: &["gen", "201"],
-        files: &[(
-            b"m.bed",
-            b"module m;\nsignature S() pre emp post [result = 7];\nexport function seven: S { return 7; }\n",
-        )],
-        fails: &[],
-        room: 100,
-        code: 2,
-        line: b"usage: word 1\n",
         image: None,
     },
     Case {
@@ -169,24 +83,6 @@ const CASES: [Case; 31] = [
     },
     Case {
         words: &["link", "seven.img", "m.bed"],
-        files: &[(b"m.bed", b"module m; \x80")],
-        fails: &[],
-        room: 100,
-        code: 3,
-        line: b"syntax: m.bed 1:11 byte\n",
-        image: None,
-    },
-    Case {
-        words: &["link", "seven.img", "m.bed"],
-        files: &[(b"m.bed", b"module 9x;")],
-        fails: &[],
-        room: 100,
-        code: 3,
-        line: b"syntax: m.bed 1:8 number\n",
-        image: None,
-    },
-    Case {
-        words: &["link", "seven.img", "m.bed"],
         files: &[(
             b"m.bed",
             b"module m;\nsignature S() pre emp post [result = 7];\nexport function f: S { return 1; return 2; }\n",
@@ -195,42 +91,6 @@ const CASES: [Case; 31] = [
         room: 100,
         code: 4,
         line: b"names: m.bed 3:34 dead\n",
-        image: None,
-    },
-    Case {
-        words: &["link", "seven.img", "m.bed"],
-        files: &[(
-            b"m.bed",
-            b"module m; signature S() reserving 4097 pre emp post emp;",
-        )],
-        fails: &[],
-        room: 100,
-        code: 6,
-        line: b"limit: reserve 4096\n",
-        image: None,
-    },
-    Case {
-        words: &["link", "seven.img", "none.bed"],
-        files: &[(
-            b"m.bed",
-            b"module m;\nsignature S() pre emp post [result = 7];\nexport function seven: S { return 7; }\n",
-        )],
-        fails: &[],
-        room: 100,
-        code: 7,
-        line: b"read fault: none.bed\n",
-        image: None,
-    },
-    Case {
-        words: &["link", "seven.img", "m.bed"],
-        files: &[(
-            b"m.bed",
-            b"module m;\nsignature S() pre emp post [result = 7];\nexport function seven: S { return 7; }\n",
-        )],
-        fails: &[1],
-        room: 100,
-        code: 7,
-        line: b"read fault: m.bed\n",
         image: None,
     },
     Case {
@@ -272,42 +132,6 @@ const CASES: [Case; 31] = [
         image: None,
     },
     Case {
-        words: &["run", "--steps", "5", "seven", "m.bed"],
-        files: &[(
-            b"m.bed",
-            b"module m;\nsignature S() pre emp post [result = 7];\nexport function seven: S { return 7; }\n",
-        )],
-        fails: &[],
-        room: 100,
-        code: 15,
-        line: b"not built: run\n",
-        image: None,
-    },
-    Case {
-        words: &["link", "--base", "0x1000", "seven.img", "m.bed"],
-        files: &[(
-            b"m.bed",
-            b"module m;\nsignature S() pre emp post [result = 7];\nexport function seven: S { return 7; }\n",
-        )],
-        fails: &[],
-        room: 100,
-        code: 15,
-        line: b"not built: --base\n",
-        image: None,
-    },
-    Case {
-        words: &["link", "seven.img", "m.bed"],
-        files: &[(
-            b"m.bed",
-            b"module m; signature S() pre emp post emp; function f: S { return 0; }",
-        )],
-        fails: &[],
-        room: 100,
-        code: 15,
-        line: b"not built: m.bed\n",
-        image: None,
-    },
-    Case {
         words: &["link", "seven.img", "a.bed", "b.bed"],
         files: &[
             (
@@ -345,62 +169,12 @@ const CASES: [Case; 31] = [
     },
     Case {
         words: &["link", "seven.img", "a.bed", "b.bed"],
-        files: &[
-            (b"a.bed", b"module m; function f: S { return 0; }"),
-            (b"b.bed", b"module"),
-        ],
-        fails: &[],
-        room: 100,
-        code: 3,
-        line: b"syntax: b.bed 1:7 token\n",
-        image: None,
-    },
-    Case {
-        words: &["link", "seven.img", "a.bed", "b.bed"],
-        files: &[(b"a.bed", b"module"), (b"b.bed", b"module 9x;")],
-        fails: &[],
-        room: 100,
-        code: 3,
-        line: b"syntax: a.bed 1:7 token\n",
-        image: None,
-    },
-    Case {
-        words: &["link", "seven.img", "a.bed", "b.bed"],
-        files: &[
-            (
-                b"a.bed",
-                b"module m;\nsignature S() pre emp post [result = 7];\nexport function seven: S { return 7; }\n",
-            ),
-            (b"b.bed", b"module m; function f: S { return 0; }"),
-        ],
-        fails: &[],
-        room: 100,
-        code: 4,
-        line: b"names: b.bed 1:23 unknown\n",
-        image: None,
-    },
-    Case {
-        words: &["link", "seven.img", "a.bed", "b.bed"],
         files: &[(b"a.bed", b"module")],
         fails: &[],
         room: 100,
         code: 7,
         line: b"read fault: b.bed\n",
         image: None,
-    },
-    Case {
-        words: &["link", "seven.img", "m.bed"],
-        files: &[(
-            b"m.bed",
-            b"module m; signature S() reserving 0 pre emp post [result = (7)]; function f: S { return 7; }",
-        )],
-        fails: &[],
-        room: 100,
-        code: 0,
-        line: b"linked 1 modules, 1 functions, 1 conditions, 21 bytes\n",
-        image: Some(
-            b"BIM1\x00\x00\x40\x00\x15\x00\x00\x00\x01\x00\x00\x00\x00\x00\x00\x40\x00\x01f\x89\xB5\x00\x00\x00\x00\xB9\x07\x00\x00\x00\x8B\xC1\x8B\xB5\x00\x00\x00\x00\xFF\xE6",
-        ),
     },
 ];
 
