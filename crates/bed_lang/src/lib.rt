@@ -2,6 +2,7 @@
 #![tactic(auto)]
 
 mod condition;
+mod form;
 mod limit;
 mod logic;
 mod module;
@@ -10,6 +11,7 @@ mod tree;
 mod word;
 
 pub use condition::{Cond, Decls, Goal, Placed};
+pub use form::{Form, Key, Piece};
 pub use limit::Which;
 pub use logic::{Arg, Assertion, Atom, Bind, Pure, Term};
 pub use module::{

@@ -1,5 +1,5 @@
 //! Copies and comparisons of lists, options and pairs of trees.
-ghost use Rattle.std.specs.Prelude.{◌≡◌, ◌&&◌, Bool, IfOk};
+ghost use Rattle.std.specs.Prelude.{◌≡◌, ◌&&◌, ◌==◌, Bool, IfOk};
 ghost use Rattle.std.specs.Cmp.Lexicographic.{pointwise};
 ghost use Rattle.bed_lang.specs.Same.{same_option, same_flag};
 
@@ -77,6 +77,18 @@ impl<A: Tree, B: Tree> Tree for (A, B) {
 
     fn same_as(&self, other: &(A, B)) -> bool {
         self.0.same_as(&other.0) && self.1.same_as(&other.1)
+    }
+}
+
+impl Tree for u32 {
+    ghost alike = { λ a b. a == b };
+
+    fn copied(&self, _alloc: Global) -> Result<u32, AllocError> {
+        Ok(*self)
+    }
+
+    fn same_as(&self, other: &u32) -> bool {
+        self == other
     }
 }
 

@@ -18,7 +18,7 @@ use Rattle.bed_lang.proofs.ValueLaws.{value-Number, value-Label, value-Add, valu
 use Rattle.bed_sat.specs.Cells.{IsCell, IsByte, IsBlock}
 use Rattle.bed_sat.specs.Facts.{IsTrueFact}
 use Rattle.bed_sat.specs.Assertions.{WordValue, ListValue, Meaning, arg_value, arg_values, IsTrueAtom, IsTrueTerm, AreTrueTerms}
-use Rattle.bed_sat.specs.Instances.{Instance, values_with, word_with, word_with_step, seq_with, seq_with_step, arg_with, args_with, pure_with, atom_with, term_with, terms_with}
+use Rattle.bed_lang.specs.Instances.{Instance, values_with, word_with, word_with_step, seq_with, seq_with_step, arg_with, args_with, pure_with, atom_with, term_with, terms_with}
 
 wrap_twice : (xs : List ℕ) → map wrap (map wrap xs) ≡ map wrap xs
 wrap_twice [] = refl

@@ -16,3 +16,10 @@ pub mod ComparisonLaws
 pub mod InstanceLaws
 pub mod SignatureLaws
 pub mod LinkingLaws
+pub mod ConditionLaws
+pub mod ConditionExamples
+pub mod ValidExamples
+pub mod RefutedExamples
+pub mod WrittenLaws
+pub mod PathLaws
+pub mod WrittenCode

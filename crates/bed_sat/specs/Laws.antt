@@ -21,7 +21,7 @@ use Rattle.bed_sat.specs.Sound.{Linked, IsSound}
 use Rattle.bed_sat.specs.Returns.{IsReturnProgram}
 use Rattle.bed_sat.specs.Scopes.{Scope, Agree, assertion_in}
 use Rattle.bed_sat.specs.Declarations.{Extends}
-use Rattle.bed_sat.specs.Instances.{Instance, values_with, terms_with}
+use Rattle.bed_lang.specs.Instances.{Instance, values_with, terms_with}
 
 -- the order of two parts doesn't matter
 abbrev pub PartsCommute : Type 0

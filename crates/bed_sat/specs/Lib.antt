@@ -10,7 +10,11 @@ pub mod Linking
 pub mod ReturnModules
 pub mod Scopes
 pub mod Declarations
-pub mod Instances
 pub mod Examples
 pub mod Laws
 pub mod Comparisons
+pub mod Written
+pub mod Conditions
+pub mod Valid
+pub mod ConditionExamples
+pub mod ConditionLaws

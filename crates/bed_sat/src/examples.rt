@@ -1,6 +1,7 @@
 //! Examples of the definitions. Each function here does nothing: its contract is an example.
 
 ghost use Rattle.bed_sat.specs.Examples.{BlockExample, ForgottenExample, SegmentExample, NowhereExample, WrapExample, SevenExample, TwoFunctionsExample, EightExample, LooseExample, NoFunctionsExample};
+ghost use Rattle.bed_sat.specs.ConditionExamples.{CountingExample, JoiningExample, FindingExample, CountingIsValidExample, CallIsValidExample, ForgottenCellExample, UnmappedLoadExample, WrappingSumExample};
 
 /// Assertions on small memories: a block and a list segment hold on exactly their bytes, an assertion
 /// that forgets a cell doesn't, a byte above 255 and a cell whose last byte has no address hold
@@ -22,4 +23,22 @@ pub fn programs()
     ensures unsound { EightExample }
     ensures empty_list { NoFunctionsExample }
     ensures unanswered { LooseExample }
+{}
+
+/// The conditions of small texts: of a loop that counts, whole; and of a body with a join and a call,
+/// and of one with a list loop, their places, the numbers of their actions and where their hints stand.
+pub fn conditions()
+    ensures counting { CountingExample }
+    ensures joining { JoiningExample }
+    ensures finding { FindingExample }
+{}
+
+/// Valid conditions: those of the loop that counts and those of a body with a call are; a condition
+/// that forgets a cell, one that loads where there is none and one whose sum may wrap aren't.
+pub fn validity()
+    ensures counting { CountingIsValidExample }
+    ensures calling { CallIsValidExample }
+    ensures forgotten { ForgottenCellExample }
+    ensures unmapped { UnmappedLoadExample }
+    ensures wraps { WrappingSumExample }
 {}

@@ -2,6 +2,7 @@
 //! assertion and program.
 
 ghost use Rattle.bed_sat.specs.Laws.{PartsCommute, PartsAssociate, PartsCancel, DeeperIsTrue, PartIsRead, CellIsStored, SlotIsStored, SlotIsRead, RowSplits, RowsJoin, BlocksAreSmall, ScopeDecides, PlacesAreAside, SignaturesAreAside, MoreIsDeclared, SubstitutionAgrees, InstancesAgree, RunsBegin, TurnsKeepStates, StepsAreUnique, ReturnsAreSound};
+ghost use Rattle.bed_sat.specs.ConditionLaws.{ListLoopsAreWritten, CodeIsSame, PathsEnd, ReturnsOweOne, NegationsDecide, OperandsAreTerms};
 
 /// Disjoint parts: their order and their grouping don't matter, and a rest is unique.
 pub fn parts()
@@ -55,4 +56,17 @@ pub fn runs()
 /// sound beside every outside.
 pub fn returns()
     ensures { ReturnsAreSound }
+{}
+
+/// The conditions of a text: in a body that is written out no `find` and no `walk` is left, and it has
+/// the same code; no path goes on after statements that can't fall through; and a function of one
+/// `return` owes one condition. The negation of a test is true exactly where the test is false, and the
+/// words of operands are those of terms.
+pub fn conditions()
+    ensures written { ListLoopsAreWritten }
+    ensures code { CodeIsSame }
+    ensures paths { PathsEnd }
+    ensures returns { ReturnsOweOne }
+    ensures negations { NegationsDecide }
+    ensures operands { OperandsAreTerms }
 {}

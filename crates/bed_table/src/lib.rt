@@ -11,8 +11,6 @@ mod rows;
 mod scope;
 mod size;
 mod symbols;
-#[cfg(test)]
-mod tests;
 
 pub use build::image;
 pub use laws::size_laws;

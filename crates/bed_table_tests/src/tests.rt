@@ -1,9 +1,9 @@
 //! Images and lengths that were worked out by hand.
-use crate::{code_length, image, size_laws};
 use bed_lang::{
     Assertion, Function, Import, List, Module, Name, Op, Operand, Place, Rel, Seq, Signature, Stmt,
     StmtKind, Term, Test,
 };
+use bed_table::{code_length, image, size_laws};
 use std::alloc::{AllocError, Global};
 use std::test::Fail;
 

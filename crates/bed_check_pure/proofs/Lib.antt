@@ -1,0 +1,16 @@
+pub mod SameLaws
+pub mod AtomLaws
+pub mod CheckLaws
+pub mod RuleLaws
+pub mod RebuiltLaws
+pub mod LabelLaws
+pub mod PieceLaws
+pub mod MemberLaws
+pub mod UnconsLaws
+pub mod ChainLaws
+pub mod CombLaws
+pub mod ReplacedLaws
+pub mod SolveLaws
+pub mod TableLaws
+pub mod WalkLaws
+pub mod BuiltLaws

@@ -1,0 +1,139 @@
+-- Where terms have the values of the variables that they stand for, a state with these terms in the place of the variables, written
+-- anew from its forms, holds where the state does.
+use Rattle.std.proofs.Common.{◌≡◌, ◌≢◌, ℕ, ◌+◌, ◌-◌, ◌*◌, ◌<◌, ◌≤◌, Some, List, [], ◌∷◌, ◌++◌, map, Contains, refl, sym, ◌∙◌, ap, ap₂, subst}
+use mathlib.Core.Path.{transport}
+use Rattle.bed_machine.specs.Memory.{Memory}
+use Rattle.bed_lang.specs.declared.word.Word.{Word, roll-Word, map-Word, ind-Word, fold-roll-Word}
+use Rattle.bed_lang.specs.declared.word.Word.TheOpen.{Word-F}
+use Rattle.bed_lang.specs.declared.word.Seq.{Seq, roll-Seq, map-Seq, ind-Seq, fold-roll-Seq}
+use Rattle.bed_lang.specs.declared.word.Seq.TheOpen.{Seq-F}
+use Rattle.bed_lang.specs.declared.logic.Arg.{Arg}
+use Rattle.bed_lang.specs.declared.logic.Arg.TheVariants as arg
+use Rattle.bed_lang.specs.declared.logic.Pure.{Pure}
+use Rattle.bed_lang.specs.declared.logic.Pure.TheVariants as pure
+use Rattle.bed_lang.specs.declared.logic.Atom.{Atom}
+use Rattle.bed_lang.specs.declared.logic.Atom.TheVariants as atom
+use Rattle.bed_lang.specs.Values.{wrap, Values, Variable, variable, value, value_step, list_value, list_value_step}
+use Rattle.bed_lang.specs.Instances.{Instance, word_with, word_with_step, seq_with, seq_with_step, arg_with, args_with, pure_with, atom_with}
+use Rattle.bed_lang.specs.Forms.{word_form, seq_form}
+use Rattle.bed_lang.proofs.ValueLaws.{value-Number, value-Label, value-Add, value-Sub, value-Times, list_value-Nil, list_value-Cons, list_value-App}
+use Rattle.bed_forms.proofs.FormValues.{form-value}
+use Rattle.bed_forms.proofs.FormLaws.{pieces-value}
+use Rattle.bed_sat.specs.Cells.{IsCell, IsByte, IsBlock}
+use Rattle.bed_sat.specs.Facts.{IsTrueFact}
+use Rattle.bed_sat.specs.Assertions.{World, WordValue, ListValue, Meaning, arg_value, arg_values, IsTrueAtom, meaning}
+use Rattle.bed_deriv.specs.declared.state.SymState.{SymState}
+use Rattle.bed_deriv.specs.Rebuilt.{rebuilt_word, rebuilt_seq, rebuilt_arg, rebuilt_fact, rebuilt_atom}
+use Rattle.bed_deriv.specs.PureRules.{replaced_facts, replaced_atoms, replaced_state}
+use Rattle.bed_check_pure.specs.States.{AreTrueFacts, AreTrueAtoms, StateHolds}
+use Rattle.bed_check_pure.proofs.RebuiltLaws.{form_word-value, pieces_seq-value}
+
+-- each term has the value of the variable that it stands for
+pub record Keeps (labels : List ℕ → ℕ) (ν : Values) (σ : Instance) : Type 0 where
+  pub words : (x : Variable) → value labels ν (σ.words x) ≡ wrap (ν.words x)
+  pub lists : (x : Variable) → list_value labels ν (σ.seqs x) ≡ map wrap (ν.lists x)
+
+module _ (w : World) (ν : Values) (σ : Instance) (keeps : Keeps w.labels ν σ) where
+  abbrev V : Word → ℕ
+  V = value w.labels ν
+
+  abbrev L : Seq → List ℕ
+  L = list_value w.labels ν
+
+  word_of : (x : Word-F Word) → V (roll-Word x) ≡ value_step w.labels ν (map-Word Word ℕ V x)
+  word_of = fold-roll-Word ℕ (value_step w.labels ν)
+
+  with_of : (x : Word-F Word) → V (word_with σ (roll-Word x)) ≡ V (word_with_step σ (map-Word Word Word (word_with σ) x))
+  with_of x = ap V (fold-roll-Word Word (word_with_step σ) x)
+
+  abbrev IsKept : Word → Type 0
+  IsKept a = V (word_with σ a) ≡ V a
+
+  word_layer : (y : Word-F ((a : Word) × IsKept a)) → IsKept (roll-Word (map-Word _ _ (λ p. p.0) y))
+  word_layer (Word-F.Number n) = with_of (Word-F.Number n) ∙ value-Number w.labels ν n ∙ sym (word_of (Word-F.Number n))
+  word_layer (Word-F.Label f) = with_of (Word-F.Label f) ∙ value-Label w.labels ν f ∙ sym (word_of (Word-F.Label f))
+  word_layer (Word-F.Var x) = with_of (Word-F.Var x) ∙ keeps.words (variable x) ∙ sym (word_of (Word-F.Var x))
+  word_layer (Word-F.Add a b) =
+      with_of (Word-F.Add a.0 b.0) ∙ value-Add w.labels ν (word_with σ a.0) (word_with σ b.0)
+      ∙ ap₂ (λ m n. wrap (m + n)) a.1 b.1 ∙ sym (word_of (Word-F.Add a.0 b.0))
+  word_layer (Word-F.Sub a b) =
+      with_of (Word-F.Sub a.0 b.0) ∙ value-Sub w.labels ν (word_with σ a.0) (word_with σ b.0)
+      ∙ ap₂ (λ m n. wrap (m + (4294967296 - n))) a.1 b.1 ∙ sym (word_of (Word-F.Sub a.0 b.0))
+  word_layer (Word-F.Times n a) =
+      with_of (Word-F.Times n a.0) ∙ value-Times w.labels ν n (word_with σ a.0) ∙ ap (λ m. wrap (n * m)) a.1 ∙ sym (word_of (Word-F.Times n a.0))
+
+  word_kept : (a : Word) → IsKept a
+  word_kept = ind-Word IsKept (λ x y is. subst (λ (z : Word-F Word). IsKept (roll-Word z)) is (word_layer y))
+
+  list_of : (x : Seq-F Seq) → L (roll-Seq x) ≡ list_value_step w.labels ν (map-Seq Seq (List ℕ) L x)
+  list_of = fold-roll-Seq (List ℕ) (list_value_step w.labels ν)
+
+  seq_with_of : (x : Seq-F Seq) → L (seq_with σ (roll-Seq x)) ≡ L (seq_with_step σ (map-Seq Seq Seq (seq_with σ) x))
+  seq_with_of x = ap L (fold-roll-Seq Seq (seq_with_step σ) x)
+
+  abbrev IsKeptList : Seq → Type 0
+  IsKeptList s = L (seq_with σ s) ≡ L s
+
+  seq_layer : (y : Seq-F ((s : Seq) × IsKeptList s)) → IsKeptList (roll-Seq (map-Seq _ _ (λ p. p.0) y))
+  seq_layer (Seq-F.Var x) = seq_with_of (Seq-F.Var x) ∙ keeps.lists (variable x) ∙ sym (list_of (Seq-F.Var x))
+  seq_layer Seq-F.Nil = seq_with_of Seq-F.Nil ∙ list_value-Nil w.labels ν ∙ sym (list_of Seq-F.Nil)
+  seq_layer (Seq-F.Cons a s) =
+      seq_with_of (Seq-F.Cons a s.0) ∙ list_value-Cons w.labels ν (word_with σ a) (seq_with σ s.0)
+      ∙ ap₂ (λ v vs. v ∷ vs) (word_kept a) s.1 ∙ sym (list_of (Seq-F.Cons a s.0))
+  seq_layer (Seq-F.App s t) =
+      seq_with_of (Seq-F.App s.0 t.0) ∙ list_value-App w.labels ν (seq_with σ s.0) (seq_with σ t.0)
+      ∙ ap₂ (λ u v. u ++ v) s.1 t.1 ∙ sym (list_of (Seq-F.App s.0 t.0))
+
+  seq_kept : (s : Seq) → IsKeptList s
+  seq_kept = ind-Seq IsKeptList (λ x y is. subst (λ (z : Seq-F Seq). IsKeptList (roll-Seq z)) is (seq_layer y))
+
+  new_word : (a : Word) → V (rebuilt_word (word_with σ a)) ≡ V a
+  new_word a = form_word-value w.labels ν (word_form (word_with σ a)) ∙ form-value w.labels ν (word_with σ a) ∙ word_kept a
+
+  new_seq : (s : Seq) → L (rebuilt_seq (seq_with σ s)) ≡ L s
+  new_seq s = pieces_seq-value w.labels ν (seq_form (seq_with σ s)) ∙ pieces-value w.labels ν (seq_with σ s) ∙ seq_kept s
+
+  -- a fact, and what it is with terms for variables, are true together
+  pub same_truth : (p : Pure) → IsTrueFact w.codes w.labels ν (rebuilt_fact (pure_with σ p)) ≡ IsTrueFact w.codes w.labels ν p
+  same_truth (pure.Equal a b) = ap₂ (λ m n. m ≡ n) (new_word a) (new_word b)
+  same_truth (pure.Unequal a b) = ap₂ (λ m n. m ≢ n) (new_word a) (new_word b)
+  same_truth (pure.Less a b) = ap₂ (λ m n. m < n) (new_word a) (new_word b)
+  same_truth (pure.AtMost a b) = ap₂ (λ m n. m ≤ n) (new_word a) (new_word b)
+  same_truth (pure.Same s t) = ap₂ (λ m n. m ≡ n) (new_seq s) (new_seq t)
+  same_truth (pure.Member a s) = ap₂ (λ m n. Contains n m) (new_word a) (new_seq s)
+  same_truth (pure.NonMember a s) = ap₂ (λ m n. Contains n m → ⊥) (new_word a) (new_seq s)
+  same_truth (pure.Code a name) = ap (λ m. w.codes m ≡ Some name.bytes) (new_word a)
+
+  new_arg : (a : Arg) → arg_value w.codes w.labels ν (rebuilt_arg (arg_with σ a)) ≡ arg_value w.codes w.labels ν a
+  new_arg (arg.Word at a) = ap WordValue (new_word a)
+  new_arg (arg.Seq at s) = ap ListValue (new_seq s)
+  new_arg (arg.Bare name) = refl
+
+  new_args : (more : List Arg) → arg_values w.codes w.labels ν (map rebuilt_arg (args_with σ more)) ≡ arg_values w.codes w.labels ν more
+  new_args [] = refl
+  new_args (a ∷ more) = ap₂ (λ v vs. v ∷ vs) (new_arg a) (new_args more)
+
+  same_atom_truth : (P : Meaning) (x : Atom) (h : Memory) → IsTrueAtom w.codes w.labels P ν (rebuilt_atom (atom_with σ x)) h ≡ IsTrueAtom w.codes w.labels P ν x h
+  same_atom_truth P (atom.Cell a v) h = ap₂ (λ m n. IsCell m n h) (new_word a) (new_word v)
+  same_atom_truth P (atom.Byte a v) h = ap₂ (λ m n. IsByte m n h) (new_word a) (new_word v)
+  same_atom_truth P (atom.Block a n) h = ap₂ (λ m k. IsBlock m k h) (new_word a) (new_word n)
+  same_atom_truth P (atom.Pred name args) h = ap (λ vs. P name.bytes vs h) (new_args args)
+
+  new_facts : (ps : List Pure) → AreTrueFacts w ν ps → AreTrueFacts w ν (replaced_facts σ ps)
+  new_facts [] t = tt
+  new_facts (p ∷ ps) t = (transport (sym (same_truth p)) t.0, new_facts ps t.1)
+
+  new_atoms : (P : Meaning) (xs : List Atom) (h : Memory) → AreTrueAtoms w ν P xs h → AreTrueAtoms w ν P (replaced_atoms σ xs) h
+  new_atoms P [] h t = t
+  new_atoms P (x ∷ xs) h (here, others, j, t, more) = (here, others, j, transport (sym (same_atom_truth P x here)) t, new_atoms P xs others more)
+
+  -- the state with the terms holds
+  pub replaced_holds : (h : Memory) (s : SymState) → StateHolds w ν h s → StateHolds w ν h (replaced_state σ s)
+  replaced_holds h s holds = record {
+    facts = new_facts s.facts holds.facts;
+    depth = holds.depth;
+    atoms = new_atoms (meaning w holds.depth) s.atoms h holds.atoms;
+  }
+
+  pub from_replaced : (p : Pure) → IsTrueFact w.codes w.labels ν (rebuilt_fact (pure_with σ p)) → IsTrueFact w.codes w.labels ν p
+  from_replaced p t = transport (same_truth p) t

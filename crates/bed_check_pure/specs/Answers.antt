@@ -1,0 +1,37 @@
+-- What the checker of facts answers.
+use Rattle.std.specs.Prelude.{◌≡◌, ℕ, Result, Ok, Err}
+use Rattle.bed_lang.specs.declared.logic.Pure.{Pure}
+use Rattle.bed_lang.specs.declared.condition.Decls.{Decls}
+use Rattle.bed_deriv.specs.declared.derivation.Rule.TheVariants.{Hyp, Norm, Order, Cut, Carry, Split, Absurd, Distinct, Bound}
+use Rattle.bed_deriv.specs.declared.derivation.Deriv.{Deriv}
+use Rattle.bed_deriv.specs.declared.state.SymState.{SymState}
+use Rattle.bed_deriv.specs.declared.state.Sequent.{Sequent}
+use Rattle.bed_deriv.specs.Checks.{sequent}
+use Rattle.bed_deriv.specs.Walk.{Table, Walked, walk}
+use Rattle.bed_deriv.specs.Derives.{fact_table}
+use Rattle.bed_check_pure.specs.declared.verdict.Verdict.{Verdict}
+use Rattle.bed_check_pure.specs.declared.verdict.Verdict.TheVariants.{Reject, Memory}
+
+-- The rules that are built: each by the table of rules. A node of another rule fails its third premise.
+abbrev pub built_table : Decls → Table Sequent
+built_table d Hyp q args n = fact_table d Hyp q args n
+built_table d Norm q args n = fact_table d Norm q args n
+built_table d Order q args n = fact_table d Order q args n
+built_table d Cut q args n = fact_table d Cut q args n
+built_table d Carry q args n = fact_table d Carry q args n
+built_table d Split q args n = fact_table d Split q args n
+built_table d Absurd q args n = fact_table d Absurd q args n
+built_table d Distinct q args n = fact_table d Distinct q args n
+built_table d Bound q args n = fact_table d Bound q args n
+built_table d _ q args n = Err 3
+
+-- the walk of a tree for a goal in a state; its root has number 1
+abbrev pub walked : Decls → SymState → Pure → Deriv → Walked
+walked d s goal t = walk (built_table d) t (sequent s goal) 1
+
+-- The answer is that of the walk, but for want of memory: Ok where every node is an instance of its rule, else the first node in
+-- preorder that isn't, with its first failing premise.
+abbrev pub Answers : Result (Unit {0}) Verdict → Walked → Type 0
+Answers (Ok u) w = (last : ℕ) × (w ≡ Ok last)
+Answers (Err (Reject node premise)) w = w ≡ Err (node, premise)
+Answers (Err Memory) w = Unit {0}

@@ -1,0 +1,5 @@
+pub mod States
+pub mod Faults
+pub mod Answers
+pub mod Sound
+pub mod Laws

@@ -1,0 +1,135 @@
+//! The check of a derivation, node by node.
+ghost use Rattle.std.specs.Prelude.{◌≡◌, OnOk};
+ghost use Rattle.bed_deriv.specs.Walk.{walk, walk_all};
+ghost use Rattle.bed_check_pure.specs.Faults.{AnswersRule, AnswersWalk, raw_rule};
+ghost use Rattle.bed_check_pure.specs.Answers.{built_table, walked, Answers};
+ghost use Rattle.bed_check_pure.specs.Sound.{Follows};
+
+use crate::fault::Fault;
+use crate::goals::goals_have_room;
+use crate::rules;
+use crate::verdict::Verdict;
+use bed_deriv::{DArg, Deriv, Rule, Sequent, SymState};
+use bed_lang::{Decls, List, Pure};
+use std::alloc::Global;
+
+// What a rule leaves to prove, whether or not its states have room.
+fn raw_rule(
+    alloc: Global,
+    rule: Rule,
+    q: &Sequent,
+    args: &[DArg],
+    n: usize,
+) -> Result<List<Sequent>, Fault>
+    ensures { AnswersRule result (raw_rule rule q.now args.now n) }
+{
+    match rule {
+        Rule::Hyp => rules::hyp(alloc, q, args, n),
+        Rule::Norm => rules::norm(alloc, q, args, n),
+        Rule::Order => rules::order(alloc, q, args, n),
+        Rule::Cut => rules::cut(alloc, q, args, n),
+        Rule::Carry => rules::carry(alloc, q, args, n),
+        Rule::Split => rules::split(alloc, q, args, n),
+        Rule::Absurd => rules::contradiction(alloc, q, args, n),
+        Rule::Distinct => rules::distinct(alloc, q, args, n),
+        Rule::Bound => rules::bound(alloc, q, args, n),
+        _ => Err(Fault::Premise(3)),
+    }
+}
+
+// What a rule leaves to prove.
+fn instance(
+    alloc: Global,
+    decls: &Decls,
+    rule: Rule,
+    q: &Sequent,
+    args: &[DArg],
+    n: usize,
+) -> Result<List<Sequent>, Fault>
+    ensures { AnswersRule result (built_table decls.now rule q.now args.now n) }
+{
+    match raw_rule(alloc, rule, q, args, n) {
+        Err(fault) => Err(fault),
+        Ok(goals) => {
+            if goals_have_room(goals.as_slice()) {
+                Ok(goals)
+            } else {
+                Err(Fault::Premise(3))
+            }
+        }
+    }
+}
+
+/// Checks a derivation of a goal in a state, its root having this number, and gives the number after its
+/// last node: for trees that are parts of a larger one.
+///
+/// # Errors
+/// As of `check_pure`.
+pub fn check_sequent(
+    alloc: Global,
+    decls: &Decls,
+    q: &Sequent,
+    d: &Deriv,
+    node: u32,
+) -> Result<u32, Verdict>
+    ensures { AnswersWalk result (walk (built_table decls.now) d.now q.now node) }
+{
+    let goals = match instance(alloc, decls, d.rule, q, d.args.as_slice(), d.children.len()) {
+        Ok(goals) => goals,
+        Err(Fault::Premise(premise)) => return Err(Verdict::Reject { node, premise }),
+        Err(Fault::Memory) => return Err(Verdict::Memory),
+    };
+    if node == u32::MAX {
+        return Err(Verdict::Memory);
+    }
+    let mut at = node + 1;
+    let mut rest = goals.as_slice();
+    for child in d.children.as_slice() {
+        match rest {
+            [] => return Ok(at),
+            [goal, more @ ..] => {
+                at = check_sequent(alloc, decls, goal, child, at)?;
+                rest = more;
+            }
+        }
+    }
+    Ok(at)
+}
+
+/// Checks a derivation of a fact in a state, against these declarations. The rules hyp, norm, order, cut,
+/// carry, split, absurd, distinct and bound are built; a node of another rule fails its third premise.
+///
+/// # Errors
+/// `Reject` exactly where some node is no instance of its rule: the first in preorder from 1, with its
+/// first failing premise. `Memory` for want of memory, and where the tree has 4294967295 nodes or more.
+pub fn check_pure(
+    alloc: Global,
+    decls: &Decls,
+    s: &SymState,
+    goal: &Pure,
+    d: &Deriv,
+) -> Result<(), Verdict>
+    ensures exact { Answers result (walked decls.now s.now goal.now d.now) }
+    ensures sound { OnOk result (Follows decls.now s.now goal.now) }
+{
+    check_tree(alloc, decls, s, goal, d)
+}
+
+fn check_tree(
+    alloc: Global,
+    decls: &Decls,
+    s: &SymState,
+    goal: &Pure,
+    d: &Deriv,
+) -> Result<(), Verdict>
+    ensures { Answers result (walked decls.now s.now goal.now d.now) }
+{
+    let (Ok(state), Ok(goal)) = (s.copy(alloc), goal.copy(alloc)) else {
+        return Err(Verdict::Memory);
+    };
+    let sequent = Sequent { state, goal };
+    match check_sequent(alloc, decls, &sequent, d, 1) {
+        Ok(_) => Ok(()),
+        Err(verdict) => Err(verdict),
+    }
+}

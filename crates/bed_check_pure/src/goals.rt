@@ -1,0 +1,103 @@
+//! What the children of a node prove.
+ghost use Rattle.std.specs.Prelude.{◌≡◌, ◌∷◌, ◌++◌, [], IfOk, OnOk};
+ghost use Rattle.bed_deriv.specs.Checks.{have_room, states_of, with_fact, sequent};
+
+use bed_deriv::{Sequent, SymState};
+use bed_lang::{List, Pure};
+use std::alloc::{AllocError, Global};
+
+// A fact in a state, at the end of the goals.
+fn push_goal(
+    alloc: Global,
+    out: &mut List<Sequent>,
+    state: &SymState,
+    goal: &Pure,
+) -> Result<(), AllocError>
+    ensures { OnOk result (out.new ≡ out.old ++ sequent state.now goal.now ∷ []) }
+{
+    let state = state.copy(alloc)?;
+    let goal = goal.copy(alloc)?;
+    out.push(Sequent { state, goal })
+}
+
+// The node's own goal with a further fact, at the end of the goals.
+fn push_known(
+    alloc: Global,
+    out: &mut List<Sequent>,
+    q: &Sequent,
+    fact: &Pure,
+) -> Result<(), AllocError>
+    ensures { OnOk result (out.new ≡ out.old ++ sequent (with_fact q.now.state fact.now) q.now.goal ∷ []) }
+{
+    let fact = fact.copy(alloc)?;
+    let state = q.state.with_fact(alloc, fact)?;
+    let goal = q.goal.copy(alloc)?;
+    out.push(Sequent { state, goal })
+}
+
+/// One fact, in the node's own state.
+pub(crate) fn one_goal(alloc: Global, q: &Sequent, p: &Pure) -> Result<List<Sequent>, AllocError>
+    ensures { IfOk result (λ r. r ≡ sequent q.now.state p.now ∷ []) }
+{
+    let mut out = List::new(alloc);
+    push_goal(alloc, &mut out, &q.state, p)?;
+    Ok(out)
+}
+
+/// Two facts, in the node's own state.
+pub(crate) fn two_goals(
+    alloc: Global,
+    q: &Sequent,
+    first: &Pure,
+    second: &Pure,
+) -> Result<List<Sequent>, AllocError>
+    ensures { IfOk result (λ r. r ≡ sequent q.now.state first.now ∷ sequent q.now.state second.now ∷ []) }
+{
+    let mut out = List::new(alloc);
+    push_goal(alloc, &mut out, &q.state, first)?;
+    push_goal(alloc, &mut out, &q.state, second)?;
+    Ok(out)
+}
+
+/// A fact, and the node's own goal with it.
+pub(crate) fn goal_and_known(
+    alloc: Global,
+    q: &Sequent,
+    p: &Pure,
+) -> Result<List<Sequent>, AllocError>
+    ensures { IfOk result (λ r. r ≡ sequent q.now.state p.now ∷ sequent (with_fact q.now.state p.now) q.now.goal ∷ []) }
+{
+    let mut out = List::new(alloc);
+    push_goal(alloc, &mut out, &q.state, p)?;
+    push_known(alloc, &mut out, q, p)?;
+    Ok(out)
+}
+
+/// The node's own goal, with one fact and with another.
+pub(crate) fn either_known(
+    alloc: Global,
+    q: &Sequent,
+    first: &Pure,
+    second: &Pure,
+) -> Result<List<Sequent>, AllocError>
+    ensures { IfOk result (λ r. r ≡ sequent (with_fact q.now.state first.now) q.now.goal ∷ sequent (with_fact q.now.state second.now) q.now.goal ∷ []) }
+{
+    let mut out = List::new(alloc);
+    push_known(alloc, &mut out, q, first)?;
+    push_known(alloc, &mut out, q, second)?;
+    Ok(out)
+}
+
+/// Whether each state has room.
+pub(crate) fn goals_have_room(goals: &[Sequent]) -> bool
+    ensures { result ≡ have_room (states_of goals.now) }
+{
+    let mut rest = goals;
+    while let [goal, more @ ..] = rest {
+        if !goal.state.has_room() {
+            return false;
+        }
+        rest = more;
+    }
+    true
+}

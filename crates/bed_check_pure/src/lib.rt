@@ -1,0 +1,14 @@
+//! The checker of facts: derivations of a goal in a state.
+#![tactic(auto)]
+
+mod check;
+mod fault;
+mod goals;
+pub mod laws;
+mod rules;
+mod same;
+mod verdict;
+
+pub use check::{check_pure, check_sequent};
+pub use fault::Fault;
+pub use verdict::Verdict;

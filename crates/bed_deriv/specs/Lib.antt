@@ -1,0 +1,14 @@
+pub mod Same
+pub mod Fresh
+pub mod Arguments
+pub mod Rebuilt
+pub mod Opening
+pub mod Checks
+pub mod PureRules
+pub mod ListRules
+pub mod Chains
+pub mod Matches
+pub mod HeapRules
+pub mod Steps
+pub mod Walk
+pub mod Derives

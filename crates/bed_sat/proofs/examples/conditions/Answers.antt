@@ -1,0 +1,11 @@
+use Rattle.bed_sat.proofs.ConditionExamples.{counting_example, joining_example, finding_example}
+use Rattle.bed_sat.proofs.examples.conditions.Goals as goal
+
+pub returns-clause-counting : goal.returns-clause-counting
+returns-clause-counting c = counting_example
+
+pub returns-clause-joining : goal.returns-clause-joining
+returns-clause-joining c = joining_example
+
+pub returns-clause-finding : goal.returns-clause-finding
+returns-clause-finding c = finding_example
