@@ -1,0 +1,16 @@
+pub mod TakeLaws
+pub mod FreshLaws
+pub mod MemoryLaws
+pub mod KeepLaws
+pub mod ShapeLaws
+pub mod MatchLaws
+pub mod TableLaws
+pub mod StepLaws
+pub mod WrapLaws
+pub mod OpenLaws
+pub mod BinderLaws
+pub mod UnfoldLaws
+pub mod FoldLaws
+pub mod TurnLaws
+pub mod SegmentLaws
+pub mod AppendLaws

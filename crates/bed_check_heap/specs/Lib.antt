@@ -1,0 +1,4 @@
+pub mod Steps
+pub mod Instances
+pub mod Sound
+pub mod Laws
