@@ -1,8 +1,8 @@
 //! The program: the top call over the system's files and the standard output.
 #![tactic(auto)]
 
-use bed_io::{Host, RealFiles, RealSink, Sink};
-use bed_top::top;
+use bed_io::{Failed, Host, RealFiles, RealSink, Sink};
+use bed_top::{Status, top};
 use std::alloc::AllocError;
 use std::env;
 use std::io::ErrorKind;
@@ -38,13 +38,18 @@ fn run<R: FileSystem + Print + Env + AllocGlobal>(rt: &R) -> Result<u8, AllocErr
     Ok(top(alloc, &words, &mut files, &mut out, hosts).code())
 }
 
+/// Where there is no memory for the call: puts the line of that, and gives its exit status.
+fn want_of_memory<R: Print>(rt: &R) -> u8 {
+    match RealSink::new(rt).put(b"want of memory\n") {
+        Ok(()) => Status::Memory.code(),
+        Err(Failed) => Status::WriteFault { sink: true }.code(),
+    }
+}
+
 fn main(rt: HostRuntime) -> ExitCode {
     match run(&rt) {
         Ok(code) => ExitCode::from(code),
-        Err(AllocError) => {
-            let _ = RealSink::new(&rt).put(b"want of memory\n");
-            ExitCode::from(9)
-        }
+        Err(AllocError) => ExitCode::from(want_of_memory(&rt)),
     }
 }
 

@@ -18,12 +18,12 @@ use Rattle.bed_lang.specs.Values.{Values, value, list_value}
 use Rattle.bed_lang.specs.Instances.{Instance, values_with, seq_with, seq_with_step}
 use Rattle.bed_lang.specs.Prelude.{lseg}
 use Rattle.bed_lang.proofs.ValueLaws.{value-small, list_value-Var, list_value-App}
+use Rattle.bed_lang.specs.Lookups.{predicate_named}
 use Rattle.bed_sat.specs.Assertions.{Meaning, IsTrueAtom, World, meaning}
 use Rattle.bed_sat.proofs.FrameLaws.{bytes_eq_is}
 use Rattle.bed_sat.proofs.InstanceLaws.{list_value-with}
 use Rattle.bed_deriv.specs.declared.derivation.DArg.{DArg}
 use Rattle.bed_deriv.specs.declared.state.SymState.{SymState}
-use Rattle.bed_deriv.specs.Opening.{predicate_named}
 use Rattle.bed_deriv.specs.HeapRules.{both_taken, Segment, segment_args, segment, is_lseg, has_segments, joined_segment, append_rule}
 use Rattle.bed_check_pure.specs.States.{AreTrueFacts}
 use Rattle.bed_check_pure.proofs.SameLaws.{not_equal}

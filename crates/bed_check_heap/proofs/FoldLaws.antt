@@ -13,6 +13,7 @@ use Rattle.bed_lang.specs.declared.module.Predicate.{Predicate}
 use Rattle.bed_lang.specs.declared.condition.Decls.{Decls}
 use Rattle.bed_lang.specs.Values.{Values}
 use Rattle.bed_lang.specs.Instances.{Instance, values_with, args_with, terms_with}
+use Rattle.bed_lang.specs.Lookups.{predicate_named}
 use Rattle.bed_sat.specs.Assertions.{blank, set_params, arg_values, AreTrueTerms, World, meaning}
 use Rattle.bed_sat.proofs.PartLaws.{joins_comm}
 use Rattle.bed_sat.proofs.SatLaws.{meaning_more}
@@ -20,7 +21,7 @@ use Rattle.bed_sat.proofs.InstanceLaws.{terms_true_with}
 use Rattle.bed_deriv.specs.declared.derivation.DArg.{DArg}
 use Rattle.bed_deriv.specs.declared.state.SymState.{SymState}
 use Rattle.bed_deriv.specs.Arguments.{at_number, number_at, name_at, to_values}
-use Rattle.bed_deriv.specs.Opening.{predicate_named, alone}
+use Rattle.bed_deriv.specs.Opening.{alone}
 use Rattle.bed_deriv.specs.Matches.{count_of_goals, count_of_atoms, atoms_left}
 use Rattle.bed_deriv.specs.HeapRules.{beside, predicate_of, value_args, fold_rule}
 use Rattle.bed_check_pure.proofs.AtomLaws.{some_same}

@@ -60,7 +60,7 @@ block_is_empty a h is = by is.0 is.1 is.2
 -- ---- bytes
 
 -- the memory of one byte, and a memory without one
-abbrev one_byte : ℕ → ℕ → Memory
+abbrev pub one_byte : ℕ → ℕ → Memory
 one_byte a b x = if nat_eq x a then Some b else None
 
 abbrev less : Memory → ℕ → Memory
@@ -77,7 +77,7 @@ one_only : (a b x v : ℕ) (t : Bool) → nat_eq x a ≡ t → (if t then Some b
 one_only a b x v true e is = (eqb-true x a e, cc)
 one_only a b x v false e is = absurd cc
 
-one_is_byte : (a b : ℕ) → b < 256 → IsByte a b (one_byte a b)
+pub one_is_byte : (a b : ℕ) → b < 256 → IsByte a b (one_byte a b)
 one_is_byte a b small = record {
   holds = ap (λ (t : Bool). if t then Some b else None) (eq-eqb a a refl);
   only = λ x v e. let o = one_only a b x v (nat_eq x a) refl e in (o.0, omega (arith, o.1));

@@ -15,13 +15,13 @@ use Rattle.bed_lang.specs.Same.{same_name, same_bind, same_assertion, same_predi
 use Rattle.bed_lang.specs.Values.{Values, Named, set_word, set_list, value, list_value}
 use Rattle.bed_lang.specs.Prelude.{name, word, sequence, lseg, empty_segment, longer_segment}
 use Rattle.bed_lang.proofs.ValueLaws.{value-Number, value-Var, value-Add, list_value-Var, list_value-Nil, list_value-Cons}
+use Rattle.bed_lang.specs.Lookups.{predicate_named}
 use Rattle.bed_sat.specs.Parts.{Joins}
 use Rattle.bed_sat.specs.Cells.{IsCell}
 use Rattle.bed_sat.specs.Assertions.{ArgValue, WordValue, ListValue, Meaning, blank, set_params, IsTrueWith, World, meaning}
 use Rattle.bed_sat.proofs.PartLaws.{joins_comm, joins_assoc, joins_empty, to_empty}
 use Rattle.bed_sat.proofs.SatLaws.{Within, meaning_more}
 use Rattle.bed_sat.proofs.SameLaws.{true_same}
-use Rattle.bed_deriv.specs.Opening.{predicate_named}
 use Rattle.bed_check_pure.proofs.AtomLaws.{some_same}
 use Rattle.bed_check_heap.proofs.TurnLaws.{params_alike, true_back, case_alike}
 use Rattle.bed_check_heap.proofs.UnfoldLaws.{case_of}

@@ -9,6 +9,7 @@ use Rattle.bed_lang.specs.declared.condition.Decls.{Decls}
 use Rattle.bed_lang.specs.Values.{Values}
 use Rattle.bed_lang.specs.Instances.{terms_with}
 use Rattle.bed_sat.specs.Assertions.{World, meaning}
+use Rattle.bed_sat.specs.Valid.{LabelsFit}
 use Rattle.bed_deriv.specs.declared.derivation.Deriv.{Deriv, out-Deriv}
 use Rattle.bed_deriv.specs.declared.state.SymState.{SymState}
 use Rattle.bed_deriv.specs.declared.state.Sequent.{Sequent}
@@ -16,7 +17,7 @@ use Rattle.bed_deriv.specs.declared.state.Remainder.{Remainder}
 use Rattle.bed_deriv.specs.Opening.{replacing}
 use Rattle.bed_deriv.specs.Checks.{sequent, first_failure}
 use Rattle.bed_deriv.specs.Walk.{Walked, walk, walk_all}
-use Rattle.bed_check_pure.specs.States.{StateHolds, AreTrueFacts, AreTrueAtoms, world, LabelsFit}
+use Rattle.bed_check_pure.specs.States.{StateHolds, AreTrueFacts, AreTrueAtoms, world}
 use Rattle.bed_check_pure.specs.Answers.{built_table}
 use Rattle.bed_check_pure.proofs.WalkLaws.{trees_true}
 use Rattle.bed_check_heap.specs.Steps.{built_rule, sequents, where_walked, children_walked, after_rule, stepped}

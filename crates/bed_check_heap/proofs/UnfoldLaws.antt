@@ -14,6 +14,7 @@ use Rattle.bed_lang.specs.declared.logic.Assertion.{Assertion}
 use Rattle.bed_lang.specs.declared.module.Predicate.{Predicate}
 use Rattle.bed_lang.specs.Values.{Values}
 use Rattle.bed_lang.specs.Instances.{values_with, terms_with}
+use Rattle.bed_lang.specs.Lookups.{predicate_named}
 use Rattle.bed_sat.specs.Parts.{Joins}
 use Rattle.bed_sat.specs.Assertions.{ArgValue, Meaning, blank, set_params, arg_values, IsTrueAtom, AreTrueTerms, IsTrueWith, World, meaning}
 use Rattle.bed_sat.proofs.PartLaws.{joins_comm, joins_empty}
@@ -22,7 +23,7 @@ use Rattle.bed_sat.proofs.InstanceLaws.{terms_true_with}
 use Rattle.bed_deriv.specs.declared.derivation.DArg.{DArg}
 use Rattle.bed_deriv.specs.declared.state.SymState.{SymState}
 use Rattle.bed_deriv.specs.Fresh.{every, known_arg, known_atom}
-use Rattle.bed_deriv.specs.Opening.{predicate_named, alone, fresh_values, facts_of, atoms_of, opened}
+use Rattle.bed_deriv.specs.Opening.{alone, fresh_values, facts_of, atoms_of, opened}
 use Rattle.bed_deriv.specs.HeapRules.{taken, params_with, with_args, declared, cases_opened, unfold_rule}
 use Rattle.bed_check_pure.specs.States.{AreTrueFacts, AreTrueAtoms, StateHolds}
 use Rattle.bed_check_pure.proofs.AtomLaws.{some_same}

@@ -2,3 +2,8 @@ pub mod Steps
 pub mod Instances
 pub mod Sound
 pub mod Laws
+pub mod Parts
+pub mod Matching
+pub mod Refusals
+pub mod Examples
+pub mod Paths

@@ -10,11 +10,12 @@ use Rattle.bed_lang.specs.Values.{Values, Variable, Fresh}
 use Rattle.bed_lang.specs.Instances.{values_with}
 use Rattle.bed_sat.specs.Parts.{Joins}
 use Rattle.bed_sat.specs.Assertions.{World, meaning, AreTrueTerms}
+use Rattle.bed_sat.specs.Valid.{LabelsFit}
 use Rattle.bed_deriv.specs.declared.state.SymState.{SymState}
 use Rattle.bed_deriv.specs.Arguments.{numbered}
 use Rattle.bed_deriv.specs.Opening.{replacing}
 use Rattle.bed_deriv.specs.Fresh.{IsKnownState}
-use Rattle.bed_check_pure.specs.States.{StateHolds, AreTrueAtoms, world, LabelsFit}
+use Rattle.bed_check_pure.specs.States.{StateHolds, AreTrueAtoms, world}
 
 -- the same values, but for fresh variables with a number from this one on
 pub record AgreeBelow (next : ℕ) (ν μ : Values) : Type 0 where

@@ -1,6 +1,21 @@
-//! The checker of the rest of a condition, as laws: the rules that change a state keep what holds, and so
-//! do matches of assertions with atoms. The definitions stand in `specs/`: `Steps` and `Instances` say what
-//! the check of a node and of a match answers, `Sound` what is promised of it.
+//! The checker of the rest of a condition: rules that change a state, and matches of assertions.
 #![tactic(auto)]
 
+mod atoms;
+mod blocks;
+mod choice;
+pub mod examples;
+mod facts;
+mod instances;
 pub mod laws;
+mod matching;
+mod refusals;
+mod remainder;
+mod shapes;
+mod step;
+mod walk;
+mod words;
+
+pub use bed_check_pure::Verdict;
+pub use instances::instance;
+pub use step::heap_step;

@@ -12,6 +12,7 @@ use Rattle.bed_lang.specs.Values.{wrap, Values, value}
 use Rattle.bed_lang.specs.Forms.{add_forms, times_form, form_step, word_form}
 use Rattle.bed_lang.specs.Coefficients.{form_value}
 use Rattle.bed_lang.proofs.ValueLaws.{value-Number, value-Add, value-Sub, value-Times, value-small}
+use Rattle.bed_lang.specs.Differences.{difference}
 use Rattle.bed_forms.proofs.FormValues.{form-value}
 use Rattle.bed_forms.proofs.FormOrder.{IsNormal, form-normal}
 use Rattle.bed_forms.proofs.SameForms.{normal-decides}
@@ -21,7 +22,6 @@ use Rattle.bed_sat.specs.Assertions.{World}
 use Rattle.bed_deriv.specs.declared.derivation.DArg.{DArg}
 use Rattle.bed_deriv.specs.declared.state.SymState.{SymState}
 use Rattle.bed_deriv.specs.declared.state.Sequent.{Sequent}
-use Rattle.bed_deriv.specs.Same.{difference}
 use Rattle.bed_deriv.specs.Arguments.{to_number, at_number}
 use Rattle.bed_deriv.specs.PureRules.{pair_before, pairs_at, added_times, combination, is_difference, is_even, comb}
 use Rattle.bed_check_pure.specs.States.{StateHolds}

@@ -13,14 +13,14 @@ use Rattle.bed_lang.specs.declared.logic.Pure.TheVariants.{Code}
 use Rattle.bed_lang.specs.Values.{wrap, Values, value}
 use Rattle.bed_lang.specs.Forms.{Part, word_form}
 use Rattle.bed_lang.specs.Coefficients.{key_value, parts_value, form_value}
+use Rattle.bed_lang.specs.Lookups.{label_signature}
 use Rattle.bed_forms.proofs.FormValues.{form-value}
 use Rattle.bed_sat.specs.Facts.{IsTrueFact}
 use Rattle.bed_sat.specs.Assertions.{World}
+use Rattle.bed_sat.specs.Valid.{LabelsFit}
 use Rattle.bed_deriv.specs.declared.derivation.DArg.{DArg}
 use Rattle.bed_deriv.specs.declared.state.Sequent.{Sequent}
-use Rattle.bed_deriv.specs.Opening.{label_signature}
 use Rattle.bed_deriv.specs.PureRules.{key_label, lone_label, form_label, is_name, has_signature, is_its_signature, label}
-use Rattle.bed_check_pure.specs.States.{LabelsFit}
 use Rattle.bed_check_pure.proofs.CheckLaws.{IsSoundCheck}
 use Rattle.bed_check_pure.proofs.RuleLaws.{counted, goal_true}
 

@@ -11,6 +11,7 @@ pub mod ChainLaws
 pub mod CombLaws
 pub mod ReplacedLaws
 pub mod SolveLaws
+pub mod RefusalLaws
 pub mod TableLaws
 pub mod WalkLaws
 pub mod BuiltLaws

@@ -13,10 +13,11 @@ use Rattle.bed_lang.specs.declared.logic.Pure.TheVariants.{Equal, Unequal, Less,
 use Rattle.bed_lang.specs.Values.{Values, value, list_value}
 use Rattle.bed_lang.specs.Forms.{word_form, seq_form, same_form}
 use Rattle.bed_lang.proofs.ValueLaws.{value-small}
+use Rattle.bed_lang.specs.Differences.{difference}
 use Rattle.bed_forms.proofs.SameForms.{same_form-value, same_pieces-value}
 use Rattle.bed_forms.proofs.DifferenceLaws.{constant-value, constant_difference-unequal, same_difference-equal, no_pieces-value}
 use Rattle.bed_sat.specs.Facts.{IsTrueFact}
-use Rattle.bed_deriv.specs.Same.{same_words, same_seqs, difference, same_facts, negation, is_none, is_constant, is_number, at_most_by_norm, by_norm}
+use Rattle.bed_deriv.specs.Same.{same_words, same_seqs, same_facts, negation, is_none, is_constant, is_number, at_most_by_norm, by_norm}
 
 pub empty_if_none : {A : Type 0} (xs : List A) → is_none xs ≡ true → xs ≡ []
 empty_if_none [] h = refl

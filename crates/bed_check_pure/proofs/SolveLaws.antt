@@ -24,6 +24,7 @@ use Rattle.bed_lang.specs.Forms.{Part, times_form, seq_form}
 use Rattle.bed_lang.specs.Coefficients.{key_value, parts_value, form_value, pieces_value, coefficient_in, ComesBefore, IsOrdered}
 use Rattle.bed_lang.specs.Instances.{Instance}
 use Rattle.bed_lang.proofs.ValueLaws.{value-Var, value-small, list_value-Var, same_var_is}
+use Rattle.bed_lang.specs.Differences.{difference}
 use Rattle.bed_forms.proofs.KeyLaws.{text-bare, bare-value, order-self}
 use Rattle.bed_forms.proofs.FormValues.{times-form_value}
 use Rattle.bed_forms.proofs.FormOrder.{IsNormal, form-normal}
@@ -34,7 +35,6 @@ use Rattle.bed_sat.specs.Facts.{IsTrueFact}
 use Rattle.bed_sat.specs.Assertions.{World}
 use Rattle.bed_deriv.specs.declared.derivation.DArg.{DArg}
 use Rattle.bed_deriv.specs.declared.state.Sequent.{Sequent}
-use Rattle.bed_deriv.specs.Same.{difference}
 use Rattle.bed_deriv.specs.Opening.{occurrence}
 use Rattle.bed_deriv.specs.Rebuilt.{form_word, pieces_seq}
 use Rattle.bed_deriv.specs.PureRules.{word_set, seq_set, parts_but, form_but, solved_by, is_just, has_sequence, solved_sequence, solution, solve}

@@ -3,15 +3,17 @@ use Rattle.std.proofs.Common.{◌≡◌, ℕ, List, length, Some, Ok}
 use Rattle.bed_machine.specs.Memory.{Memory}
 use Rattle.bed_lang.specs.Values.{Values}
 use Rattle.bed_sat.specs.Assertions.{World}
+use Rattle.bed_sat.specs.Valid.{LabelsFit}
 use Rattle.bed_deriv.specs.declared.derivation.DArg.{DArg}
 use Rattle.bed_deriv.specs.declared.derivation.Rule.{Rule}
-use Rattle.bed_deriv.specs.declared.derivation.Rule.TheVariants.{Hyp, Norm, Comb, Solve, Uncons, Chain, Order, Cut, Carry, Split, Absurd, Void, Member, Lacks, Part, One, Distinct, Bound, Label}
+use Rattle.bed_deriv.specs.declared.derivation.Rule.TheVariants.{Hyp, Norm, Comb, Solve, Uncons, Chain, Order, Cut, Carry, Split, Absurd, Void, Member, Lacks, Part, One, Distinct, Bound, Label, Claim, When, Never, Divide, Merge, Shape}
 use Rattle.bed_deriv.specs.declared.state.Sequent.{Sequent}
 use Rattle.bed_deriv.specs.PureRules.{hyp, norm, comb, solve, order, cut, carry, split, contradiction, distinct, bound, label}
 use Rattle.bed_deriv.specs.ListRules.{uncons, void, member, lacks, part, one}
 use Rattle.bed_deriv.specs.Chains.{chain}
+use Rattle.bed_deriv.specs.HeapRules.{claim, case_split, never, divide, merge, shape}
+use Rattle.bed_deriv.specs.Checks.{remainder}
 use Rattle.bed_deriv.specs.Derives.{fact_table}
-use Rattle.bed_check_pure.specs.States.{LabelsFit}
 use Rattle.bed_check_pure.specs.Sound.{FollowsAt, AllFollowAt}
 use Rattle.bed_check_pure.specs.Answers.{built_table}
 use Rattle.bed_check_pure.specs.Laws.{HypIsSound, NormIsSound, CombIsSound, SolveIsSound, UnconsIsSound, ChainIsSound, OrderIsSound, CutIsSound, CarryIsSound, SplitIsSound, AbsurdIsSound, VoidIsSound, MemberIsSound, LacksIsSound, PartIsSound, OneIsSound, DistinctIsSound, BoundIsSound, LabelIsSound}
@@ -23,6 +25,7 @@ use Rattle.bed_check_pure.proofs.ChainLaws.{chain_sound}
 use Rattle.bed_check_pure.proofs.UnconsLaws.{uncons_sound, void_sound}
 use Rattle.bed_check_pure.proofs.MemberLaws.{member_sound, lacks_sound, part_sound, one_sound}
 use Rattle.bed_check_pure.proofs.LabelLaws.{label_sound}
+use Rattle.bed_check_pure.proofs.RefusalLaws.{never_accepted}
 
 module _ (w : World) (ν : Values) (h : Memory) (q : Sequent) (args : List DArg) (n : ℕ) (goals : List Sequent) where
   -- there are as many goals as children, and where these follow so does the node's
@@ -54,6 +57,12 @@ module _ (w : World) (ν : Values) (h : Memory) (q : Sequent) (args : List DArg)
 
   built_is_fact : (r : Rule) → built_table w.decls r q args n ≡ Ok goals → fact_table w.decls r q args n ≡ Ok goals
   built_is_fact Hyp e = e
+  built_is_fact Claim e = absurd (never_accepted (remainder (claim q.state args n)) goals e)
+  built_is_fact When e = absurd (never_accepted (remainder (case_split q.state args n)) goals e)
+  built_is_fact Never e = absurd (never_accepted (remainder (never args n)) goals e)
+  built_is_fact Divide e = absurd (never_accepted (remainder (divide q.state args n)) goals e)
+  built_is_fact Merge e = absurd (never_accepted (remainder (merge q.state args n)) goals e)
+  built_is_fact Shape e = absurd (never_accepted (remainder (shape q.state args n)) goals e)
   built_is_fact _ e = cc
 
   -- and so do those of a rule that is built

@@ -6,6 +6,7 @@ use Rattle.bed_lang.specs.declared.logic.Pure.{Pure}
 use Rattle.bed_lang.specs.declared.condition.Decls.{Decls}
 use Rattle.bed_lang.specs.Values.{Values}
 use Rattle.bed_sat.specs.Assertions.{World}
+use Rattle.bed_sat.specs.Valid.{LabelsFit}
 use Rattle.bed_deriv.specs.declared.derivation.DArg.{DArg}
 use Rattle.bed_deriv.specs.declared.derivation.Rule.{Rule}
 use Rattle.bed_deriv.specs.declared.derivation.Deriv.{Deriv, Deriv-F, roll-Deriv, map-Deriv, ind-Deriv, fold-roll-Deriv}
@@ -13,7 +14,7 @@ use Rattle.bed_deriv.specs.declared.state.SymState.{SymState}
 use Rattle.bed_deriv.specs.declared.state.Sequent.{Sequent}
 use Rattle.bed_deriv.specs.Checks.{sequent}
 use Rattle.bed_deriv.specs.Walk.{Table, Walked, Walk, and_then, walk_all, walk_below, walk_step, walk}
-use Rattle.bed_check_pure.specs.States.{AreTrueFacts, StateHolds, world, LabelsFit}
+use Rattle.bed_check_pure.specs.States.{AreTrueFacts, StateHolds, world}
 use Rattle.bed_check_pure.specs.Sound.{FollowsAt, AllFollowAt, Follows}
 use Rattle.bed_check_pure.specs.Answers.{built_table, walked}
 use Rattle.bed_check_pure.proofs.TableLaws.{built_sound}

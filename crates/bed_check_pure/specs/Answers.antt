@@ -2,17 +2,18 @@
 use Rattle.std.specs.Prelude.{◌≡◌, ℕ, Result, Ok, Err}
 use Rattle.bed_lang.specs.declared.logic.Pure.{Pure}
 use Rattle.bed_lang.specs.declared.condition.Decls.{Decls}
-use Rattle.bed_deriv.specs.declared.derivation.Rule.TheVariants.{Hyp, Norm, Order, Cut, Carry, Split, Absurd, Distinct, Bound}
+use Rattle.bed_deriv.specs.declared.derivation.Rule.TheVariants.{Hyp, Norm, Order, Cut, Carry, Split, Absurd, Distinct, Bound, Claim, When, Never, Divide, Merge, Shape}
 use Rattle.bed_deriv.specs.declared.derivation.Deriv.{Deriv}
 use Rattle.bed_deriv.specs.declared.state.SymState.{SymState}
 use Rattle.bed_deriv.specs.declared.state.Sequent.{Sequent}
-use Rattle.bed_deriv.specs.Checks.{sequent}
+use Rattle.bed_deriv.specs.Checks.{sequent, remainder}
 use Rattle.bed_deriv.specs.Walk.{Table, Walked, walk}
-use Rattle.bed_deriv.specs.Derives.{fact_table}
+use Rattle.bed_deriv.specs.Derives.{fact_table, heap_rule, refused}
 use Rattle.bed_check_pure.specs.declared.verdict.Verdict.{Verdict}
 use Rattle.bed_check_pure.specs.declared.verdict.Verdict.TheVariants.{Reject, Memory}
 
--- The rules that are built: each by the table of rules. A node of another rule fails its third premise.
+-- The rules that are built: each by the table of rules. Rules that change a state prove no fact: a node of one is refused by the first
+-- of its premises that fails, or else by the third. A node of a rule that isn't built fails its third premise.
 abbrev pub built_table : Decls → Table Sequent
 built_table d Hyp q args n = fact_table d Hyp q args n
 built_table d Norm q args n = fact_table d Norm q args n
@@ -23,6 +24,12 @@ built_table d Split q args n = fact_table d Split q args n
 built_table d Absurd q args n = fact_table d Absurd q args n
 built_table d Distinct q args n = fact_table d Distinct q args n
 built_table d Bound q args n = fact_table d Bound q args n
+built_table d Claim q args n = refused (remainder (heap_rule d Claim q.state args n))
+built_table d When q args n = refused (remainder (heap_rule d When q.state args n))
+built_table d Never q args n = refused (remainder (heap_rule d Never q.state args n))
+built_table d Divide q args n = refused (remainder (heap_rule d Divide q.state args n))
+built_table d Merge q args n = refused (remainder (heap_rule d Merge q.state args n))
+built_table d Shape q args n = refused (remainder (heap_rule d Shape q.state args n))
 built_table d _ q args n = Err 3
 
 -- the walk of a tree for a goal in a state; its root has number 1

@@ -4,12 +4,12 @@ use Rattle.std.specs.Prelude.{◌≡◌, ℕ, List, Ok}
 use Rattle.bed_machine.specs.Memory.{Memory}
 use Rattle.bed_lang.specs.Values.{Values}
 use Rattle.bed_sat.specs.Assertions.{World}
+use Rattle.bed_sat.specs.Valid.{LabelsFit}
 use Rattle.bed_deriv.specs.declared.derivation.DArg.{DArg}
 use Rattle.bed_deriv.specs.declared.derivation.Rule.{Rule}
 use Rattle.bed_deriv.specs.declared.derivation.Rule.TheVariants as rule
 use Rattle.bed_deriv.specs.declared.state.Sequent.{Sequent}
 use Rattle.bed_deriv.specs.Derives.{fact_table}
-use Rattle.bed_check_pure.specs.States.{LabelsFit}
 use Rattle.bed_check_pure.specs.Sound.{FollowsAt, AllFollowAt}
 
 abbrev pub IsSoundRule : Rule → Type 0

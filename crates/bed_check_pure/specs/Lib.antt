@@ -1,4 +1,5 @@
 pub mod States
+pub mod Refusals
 pub mod Faults
 pub mod Answers
 pub mod Sound

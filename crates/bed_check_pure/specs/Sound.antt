@@ -6,9 +6,10 @@ use Rattle.bed_lang.specs.declared.condition.Decls.{Decls}
 use Rattle.bed_lang.specs.Values.{Values}
 use Rattle.bed_sat.specs.Facts.{IsTrueFact}
 use Rattle.bed_sat.specs.Assertions.{World}
+use Rattle.bed_sat.specs.Valid.{LabelsFit}
 use Rattle.bed_deriv.specs.declared.state.SymState.{SymState}
 use Rattle.bed_deriv.specs.declared.state.Sequent.{Sequent}
-use Rattle.bed_check_pure.specs.States.{StateHolds, world, LabelsFit}
+use Rattle.bed_check_pure.specs.States.{StateHolds, world}
 
 -- the goal is true where the state holds, under these values and on this memory
 abbrev pub FollowsAt : World → Values → Memory → Sequent → Type 0

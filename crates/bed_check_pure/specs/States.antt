@@ -1,16 +1,14 @@
 -- When a state of the checker holds on a memory.
-use Rattle.std.specs.Prelude.{◌≡◌, ℕ, Option, Some, List, [], ◌∷◌}
+use Rattle.std.specs.Prelude.{◌≡◌, ℕ, Option, List, [], ◌∷◌}
 use Rattle.bed_machine.specs.Memory.{Memory, empty}
-use Rattle.bed_lang.specs.declared.word.Name.{Name}
 use Rattle.bed_lang.specs.declared.logic.Pure.{Pure}
 use Rattle.bed_lang.specs.declared.logic.Atom.{Atom}
 use Rattle.bed_lang.specs.declared.condition.Decls.{Decls}
-use Rattle.bed_lang.specs.Values.{wrap, Values}
+use Rattle.bed_lang.specs.Values.{Values}
 use Rattle.bed_sat.specs.Parts.{Joins}
 use Rattle.bed_sat.specs.Facts.{IsTrueFact}
 use Rattle.bed_sat.specs.Assertions.{World, Meaning, IsTrueAtom, meaning}
 use Rattle.bed_deriv.specs.declared.state.SymState.{SymState}
-use Rattle.bed_deriv.specs.Opening.{label_signature}
 
 module _ (w : World) (ν : Values) where
   -- every fact of a list is true
@@ -33,7 +31,3 @@ module _ (w : World) (ν : Values) where
 -- what an assertion is read against, with these declarations
 abbrev pub world : Decls → (ℕ → Option (List ℕ)) → (List ℕ → ℕ) → World
 world d codes labels = record { decls = d; codes = codes; labels = labels }
-
--- the code map has the signature of each label at its address
-abbrev pub LabelsFit : World → Type 0
-LabelsFit w = (f : List ℕ) (name : Name) → label_signature w.decls f ≡ Some name → w.codes (wrap (w.labels f)) ≡ Some name.bytes

@@ -7,8 +7,8 @@ ghost use Rattle.bed_check_pure.specs.Sound.{Follows};
 
 use crate::fault::Fault;
 use crate::goals::goals_have_room;
-use crate::rules;
 use crate::verdict::Verdict;
+use crate::{refusals, rules};
 use bed_deriv::{DArg, Deriv, Rule, Sequent, SymState};
 use bed_lang::{Decls, List, Pure};
 use std::alloc::Global;
@@ -33,11 +33,18 @@ fn raw_rule(
         Rule::Absurd => rules::contradiction(alloc, q, args, n),
         Rule::Distinct => rules::distinct(alloc, q, args, n),
         Rule::Bound => rules::bound(alloc, q, args, n),
+        Rule::Claim => Err(refusals::claim(&q.state, args, n)),
+        Rule::When => Err(refusals::claim(&q.state, args, n)),
+        Rule::Never => Err(refusals::never(args, n)),
+        Rule::Divide => Err(refusals::divide(alloc, &q.state, args, n)),
+        Rule::Merge => Err(refusals::merge(&q.state, args, n)),
+        Rule::Shape => Err(refusals::shape(&q.state, args, n)),
         _ => Err(Fault::Premise(3)),
     }
 }
 
 // What a rule leaves to prove.
+#[tactic(auto, using(crate::proofs::BuiltLaws::raw_built))]
 fn instance(
     alloc: Global,
     decls: &Decls,
@@ -97,7 +104,9 @@ pub fn check_sequent(
 }
 
 /// Checks a derivation of a fact in a state, against these declarations. The rules hyp, norm, order, cut,
-/// carry, split, absurd, distinct and bound are built; a node of another rule fails its third premise.
+/// carry, split, absurd, distinct and bound are built. The rules claim, when, never, divide, merge and
+/// shape prove no fact: a node of one is refused by its first failing premise, or else by the third. A
+/// node of another rule fails its third premise.
 ///
 /// # Errors
 /// `Reject` exactly where some node is no instance of its rule: the first in preorder from 1, with its

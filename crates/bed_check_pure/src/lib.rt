@@ -5,6 +5,7 @@ mod check;
 mod fault;
 mod goals;
 pub mod laws;
+mod refusals;
 mod rules;
 mod same;
 mod verdict;

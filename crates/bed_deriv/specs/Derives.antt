@@ -87,7 +87,7 @@ pub data Task : Type 0 where
   Closes : Rest → Task
 
 -- a rule for facts never meets its own condition at the rest of a condition, nor any other rule at a fact
-abbrev pub refused : {A : Type 0} → Result A ℕ → Result (List Task) ℕ
+abbrev pub refused : {A B : Type 0} → Result A ℕ → Result B ℕ
 refused (Err p) = Err p
 refused (Ok x) = Err 3
 

@@ -24,32 +24,8 @@ use Rattle.bed_lang.specs.declared.condition.Cond.{Cond}
 use Rattle.bed_lang.specs.Values.{Variable, Named, Old, Answer, Fresh, Hole, same_variable}
 use Rattle.bed_lang.specs.Keys.{bare_name}
 use Rattle.bed_lang.specs.Instances.{Instance, terms_with}
+use Rattle.bed_lang.specs.Lookups.{function_signature, count_of_params}
 use Rattle.bed_deriv.specs.declared.state.SymState.{SymState}
-
--- ---- declarations
-
--- the first signature, and the first predicate, of a name
-abbrev pub signature_named : Decls → List ℕ → Option Signature
-signature_named d x = find (λ S. bytes_eq S.name.bytes x) d.signatures
-
-abbrev pub predicate_named : Decls → List ℕ → Option Predicate
-predicate_named d x = find (λ p. bytes_eq p.name.bytes x) d.predicates
-
--- the name of the signature that the first label of a name has
-abbrev pub second_of : Option (Name × Name) → Option Name
-second_of None = None
-second_of (Some p) = Some p.1
-
-abbrev pub label_signature : Decls → List ℕ → Option Name
-label_signature d f = second_of (find (λ p. bytes_eq p.0.bytes f) d.labels)
-
-abbrev pub named_signature : Decls → Option Name → Option Signature
-named_signature d None = None
-named_signature d (Some x) = signature_named d x.bytes
-
--- the signature of a function or an import
-abbrev pub function_signature : Decls → Name → Option Signature
-function_signature d f = named_signature d (label_signature d f.bytes)
 
 -- ---- terms for variables
 
@@ -169,10 +145,6 @@ abbrev pub first_locals : List Name → ℕ → ℕ → List (Name × Word)
 first_locals [] k n = []
 first_locals (x ∷ xs) (suc k) n = (x, WordVar (var.Old (bare_name x))) ∷ first_locals xs k n
 first_locals (x ∷ xs) zero n = (x, WordVar (var.Fresh n)) ∷ first_locals xs zero (n + 1)
-
-abbrev pub count_of_params : Option Signature → ℕ
-count_of_params None = 0
-count_of_params (Some S) = length S.params
 
 -- how many locals have their values at entry: the arguments at the entry, none at an inner point
 abbrev pub arguments_of : Cond → Decls → ℕ

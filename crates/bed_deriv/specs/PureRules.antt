@@ -21,12 +21,14 @@ use Rattle.bed_lang.specs.Keys.{same_key}
 use Rattle.bed_lang.specs.Forms.{Part, word_form, seq_form, add_forms, times_form, same_form}
 use Rattle.bed_lang.specs.Coefficients.{coefficient_in}
 use Rattle.bed_lang.specs.Instances.{Instance, pure_with, atom_with}
+use Rattle.bed_lang.specs.Differences.{difference}
+use Rattle.bed_lang.specs.Lookups.{label_signature}
 use Rattle.bed_deriv.specs.declared.derivation.DArg.{DArg}
 use Rattle.bed_deriv.specs.declared.state.SymState.{SymState}
-use Rattle.bed_deriv.specs.Same.{same_facts, negation, by_norm, difference}
+use Rattle.bed_deriv.specs.Same.{same_facts, negation, by_norm}
 use Rattle.bed_deriv.specs.Arguments.{numbered, number_at, word_at, variable_at, fact_given, fact_at, atom_at, to_number, at_number, counts}
 use Rattle.bed_deriv.specs.Rebuilt.{form_word, pieces_seq, rebuilt_fact, rebuilt_atom}
-use Rattle.bed_deriv.specs.Opening.{occurrence, label_signature}
+use Rattle.bed_deriv.specs.Opening.{occurrence}
 use Rattle.bed_deriv.specs.Checks.{Goals, Needs, Given, Fails, Leaves, with_fact, sequent}
 
 -- hyp[i]: the goal is the same as fact i

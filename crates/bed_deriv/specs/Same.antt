@@ -7,7 +7,8 @@ use Rattle.bed_lang.specs.declared.word.Seq.{Seq}
 use Rattle.bed_lang.specs.declared.logic.Pure.{Pure}
 use Rattle.bed_lang.specs.declared.logic.Pure.TheVariants.{Equal, Unequal, Less, AtMost, Same, Member, NonMember, Code}
 use Rattle.bed_lang.specs.Same.{same_name}
-use Rattle.bed_lang.specs.Forms.{word_form, seq_form, add_forms, times_form, same_form, same_piece}
+use Rattle.bed_lang.specs.Forms.{word_form, seq_form, same_form, same_piece}
+use Rattle.bed_lang.specs.Differences.{difference, same_difference}
 
 -- words and sequences are read through their normal forms
 abbrev pub same_words : Word → Word → Bool
@@ -15,14 +16,6 @@ same_words a b = same_form (word_form a) (word_form b)
 
 abbrev pub same_seqs : Seq → Seq → Bool
 same_seqs s t = pointwise same_piece (seq_form s) (seq_form t)
-
--- the form of a - b; 4294967295 is minus one
-abbrev pub difference : Word → Word → Form
-difference a b = add_forms (word_form a) (times_form 4294967295 (word_form b))
-
--- the same difference of sides, up to sign
-abbrev pub same_difference : Word → Word → Word → Word → Bool
-same_difference a b c d = same_form (difference a b) (difference c d) || same_form (difference a b) (difference d c)
 
 -- two facts are the same where their kinds and normal forms are; `=` and `!=` compare the difference of their sides up to sign
 abbrev pub same_facts : Pure → Pure → Bool

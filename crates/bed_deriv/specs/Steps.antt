@@ -29,12 +29,13 @@ use Rattle.bed_lang.specs.declared.form.Form.{Form}
 use Rattle.bed_lang.specs.Keys.{bare_name}
 use Rattle.bed_lang.specs.Forms.{word_form, times_form}
 use Rattle.bed_lang.specs.Instances.{Instance, terms_with}
+use Rattle.bed_lang.specs.Lookups.{signature_named, label_signature, named_signature, function_signature}
 use Rattle.bed_deriv.specs.declared.derivation.DArg.{DArg}
 use Rattle.bed_deriv.specs.declared.state.SymState.{SymState}
 use Rattle.bed_deriv.specs.Same.{is_constant, is_none}
 use Rattle.bed_deriv.specs.Arguments.{numbered, number_at, atom_at, to_values, counts}
 use Rattle.bed_deriv.specs.Rebuilt.{form_word, rebuilt_word}
-use Rattle.bed_deriv.specs.Opening.{signature_named, label_signature, named_signature, function_signature, replacing, with_answer, local_values, opened}
+use Rattle.bed_deriv.specs.Opening.{replacing, with_answer, local_values, opened}
 use Rattle.bed_deriv.specs.Matches.{count_of_goals, count_of_atoms, chosen, all_different, atoms_left, match_goals}
 use Rattle.bed_deriv.specs.HeapRules.{cell_of, byte_of, fresh_word, with_next}
 use Rattle.bed_deriv.specs.Checks.{Check, Needs, Given, Fails, Leaves, first_failure, with_room, with_fact}

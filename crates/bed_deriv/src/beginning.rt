@@ -2,8 +2,9 @@
 ghost use Rattle.std.specs.Prelude.{◌≡◌, ◌<◌, ◌-◌, ◌+◌, ◌++◌, ◌∷◌, [], IfOk, OnOk, IsTrue, length};
 ghost use Rattle.std.specs.Option.{option_copied};
 ghost use Rattle.bed_lang.specs.Instances.{terms_with};
+ghost use Rattle.bed_lang.specs.Lookups.{signature_named, label_signature, function_signature, count_of_params};
 ghost use Rattle.bed_deriv.specs.Fresh.{IsKnownState, AreUnfresh, unfresh_condition, condition_size};
-ghost use Rattle.bed_deriv.specs.Opening.{signature_named, label_signature, function_signature, count_of_params, arguments_of, first_locals, fresh_values, fresh_value, local_values, local_value, replacing, with_terms, opened_alone, started};
+ghost use Rattle.bed_deriv.specs.Opening.{arguments_of, first_locals, fresh_values, fresh_value, local_values, local_value, replacing, with_terms, opened_alone, started};
 
 use crate::opening::{replace_atom, replace_fact};
 use crate::state::SymState;

@@ -11,7 +11,7 @@ use Rattle.bed_lang.specs.declared.form.Form.{Form}
 use Rattle.bed_lang.specs.Forms.{word_form, form_step, seq_form, same_form}
 use Rattle.bed_lang.specs.Coefficients.{parts_value, key_value, form_value, pieces_value}
 use Rattle.bed_lang.proofs.ValueLaws.{value-Sub, value-small}
-use Rattle.bed_forms.specs.Differences.{difference, same_difference}
+use Rattle.bed_lang.specs.Differences.{difference, same_difference}
 use Rattle.bed_forms.specs.Laws.{HasDifferenceOf, ConstantsAreValues, SameUpToSign, NoPiecesNoElements}
 use Rattle.bed_forms.proofs.FormValues.{form-value}
 use Rattle.bed_forms.proofs.FormOrder.{IsNormal, form-normal}

@@ -9,7 +9,7 @@ use Rattle.bed_lang.specs.declared.form.Form.{Form}
 use Rattle.bed_lang.specs.declared.form.Piece.{Piece}
 use Rattle.bed_lang.specs.Forms.{add_forms, times_form, word_form, seq_form, same_form, same_piece}
 use Rattle.bed_lang.specs.Coefficients.{form_value, pieces_value, constant, coefficient, IsFormOf}
-use Rattle.bed_forms.specs.Differences.{difference, same_difference}
+use Rattle.bed_lang.specs.Differences.{difference, same_difference}
 
 -- the form has the word's value, whatever labels and variables are
 abbrev pub HasValueOf : Word → Form → Type 0

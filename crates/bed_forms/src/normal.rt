@@ -3,7 +3,7 @@ ghost use Rattle.std.specs.Prelude.{◌≡◌, ◌++◌, ◌∷◌, [], ◌≤�
 ghost use Rattle.bed_lang.specs.Keys.{bare_name, bare_var};
 ghost use Rattle.bed_lang.specs.Forms.{only, word_form, seq_form};
 ghost use Rattle.bed_lang.specs.Coefficients.{IsFormOf};
-ghost use Rattle.bed_forms.specs.Differences.{difference};
+ghost use Rattle.bed_lang.specs.Differences.{difference};
 ghost use Rattle.bed_forms.specs.Laws.{HasValueOf, HasDifferenceOf, HasValuesOf};
 
 use crate::sum::{add_forms, minus_form, times_form};

@@ -1,7 +1,7 @@
 //! Sums and products of forms.
 ghost use Rattle.std.specs.Prelude.{◌≡◌, ◌++◌, [], IfOk, OnOk};
 ghost use Rattle.bed_lang.specs.Forms.{part_before, add_parts, times_parts, add_forms, times_form};
-ghost use Rattle.bed_forms.specs.Differences.{minus_form};
+ghost use Rattle.bed_lang.specs.Differences.{minus_form};
 
 use bed_lang::{Form, Key, List};
 use std::alloc::{AllocError, Global};

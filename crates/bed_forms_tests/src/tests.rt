@@ -1,6 +1,6 @@
 //! Words and sequences, by their trees.
 use bed_forms::{Form, Key, Piece, add_forms, difference, seq_form, times_form, word_form};
-use bed_lang::{Box, List, Name, Seq, Var, Word};
+use bed_lang::{Box, List, Name, Seq, Var, Word, substitute};
 use std::alloc::{AllocError, Global};
 use std::test::Fail;
 
@@ -204,5 +204,15 @@ fn a_million_pieces_are_the_most(rt: HostRuntime) -> Result<(), Fail> {
     let most = seq_form(alloc, &row(alloc, 1_000_000)?)?;
     assert_eq!(rt; most.len(), 1_000_000);
     assert!(rt; seq_form(alloc, &row(alloc, 1_000_001)?).is_err());
+    Ok(())
+}
+
+#[test]
+fn a_variable_gives_way_to_a_word(rt: HostRuntime) -> Result<(), Fail> {
+    let alloc = rt.alloc();
+    let x = Var::Named(name(alloc, b'x', 0)?);
+    let by = word(alloc, b"y1+")?;
+    let made = substitute(alloc, &word(alloc, b"x4-2x*+")?, &x, &by)?;
+    assert!(rt; made.same(&word(alloc, b"y1+4-2y1+*+")?));
     Ok(())
 }

@@ -6,3 +6,5 @@ pub mod Keys
 pub mod Forms
 pub mod Coefficients
 pub mod Instances
+pub mod Differences
+pub mod Lookups

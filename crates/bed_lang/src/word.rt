@@ -145,6 +145,7 @@ impl Word {
     ///
     /// # Errors
     /// `AllocError` for want of memory.
+    #[cycle(copy_word)]
     pub fn copy(&self, alloc: Global) -> Result<Word, AllocError>
         ensures { IfOk result (λ r. r ≡ self.now) }
     {
@@ -152,20 +153,9 @@ impl Word {
             Word::Number(n) => Ok(Word::Number(*n)),
             Word::Var(v) => Ok(Word::Var(v.copy(alloc)?)),
             Word::Label(name) => Ok(Word::Label(name.copy(alloc)?)),
-            Word::Add(a, b) => {
-                let a = a.get().copy(alloc)?;
-                let b = b.get().copy(alloc)?;
-                Ok(Word::Add(Box::new(alloc, a)?, Box::new(alloc, b)?))
-            }
-            Word::Sub(a, b) => {
-                let a = a.get().copy(alloc)?;
-                let b = b.get().copy(alloc)?;
-                Ok(Word::Sub(Box::new(alloc, a)?, Box::new(alloc, b)?))
-            }
-            Word::Times(n, a) => {
-                let a = a.get().copy(alloc)?;
-                Ok(Word::Times(*n, Box::new(alloc, a)?))
-            }
+            Word::Add(a, b) => Ok(Word::Add(copy_word(alloc, a)?, copy_word(alloc, b)?)),
+            Word::Sub(a, b) => Ok(Word::Sub(copy_word(alloc, a)?, copy_word(alloc, b)?)),
+            Word::Times(n, a) => Ok(Word::Times(*n, copy_word(alloc, a)?)),
         }
     }
 
@@ -185,27 +175,37 @@ impl Word {
     }
 }
 
+// Parts are copied in calls of their own, so that each level of a deep word takes little of the stack.
+#[inline(never)]
+#[cycle(copy_word)]
+fn copy_word(alloc: Global, w: &Box<Word>) -> Result<Box<Word>, AllocError>
+    ensures { IfOk result (λ r. r ≡ w.now) }
+{
+    Box::new(alloc, w.get().copy(alloc)?)
+}
+
+#[inline(never)]
+#[cycle(copy_seq)]
+fn copy_seq(alloc: Global, s: &Box<Seq>) -> Result<Box<Seq>, AllocError>
+    ensures { IfOk result (λ r. r ≡ s.now) }
+{
+    Box::new(alloc, s.get().copy(alloc)?)
+}
+
 impl Seq {
     /// A copy, equal to the original.
     ///
     /// # Errors
     /// `AllocError` for want of memory.
+    #[cycle(copy_seq)]
     pub fn copy(&self, alloc: Global) -> Result<Seq, AllocError>
         ensures { IfOk result (λ r. r ≡ self.now) }
     {
         match self {
             Seq::Var(v) => Ok(Seq::Var(v.copy(alloc)?)),
             Seq::Nil => Ok(Seq::Nil),
-            Seq::Cons(a, s) => {
-                let a = a.get().copy(alloc)?;
-                let s = s.get().copy(alloc)?;
-                Ok(Seq::Cons(Box::new(alloc, a)?, Box::new(alloc, s)?))
-            }
-            Seq::App(s, t) => {
-                let s = s.get().copy(alloc)?;
-                let t = t.get().copy(alloc)?;
-                Ok(Seq::App(Box::new(alloc, s)?, Box::new(alloc, t)?))
-            }
+            Seq::Cons(a, s) => Ok(Seq::Cons(copy_word(alloc, a)?, copy_seq(alloc, s)?)),
+            Seq::App(s, t) => Ok(Seq::App(copy_seq(alloc, s)?, copy_seq(alloc, t)?)),
         }
     }
 

@@ -10,10 +10,10 @@ use Rattle.bed_lang.specs.declared.module.Function.{Function}
 use Rattle.bed_lang.specs.declared.module.Module.{Module}
 use Rattle.bed_lang.specs.declared.statement.StmtKind.{If, Return}
 use Rattle.bed_lang.specs.Prelude.{name, sequence}
+use Rattle.bed_lang.specs.Lookups.{first_signature}
 use Rattle.bed_table.specs.ListLoops.{field_at, list_invariant, not_yet, is_key}
 use Rattle.bed_sat.specs.Written.{statement, made_test, list_loop, written}
 use Rattle.bed_sat.specs.Conditions.{Site, site_of, path_at_entry, path_from, then_action, condition, body_part, function_conditions, conditions}
-use Rattle.bed_sat.specs.Linking.{first_signature}
 use Rattle.bed_sat.specs.ConditionExamples.{counting_signature, counting_function, counting_module, counting_begins, counting_goes_on, counting_ends, CountingExample, shape, joining_function, joining_module, JoiningExample, finding_function, finding_module, found_body, kept, FindingExample, y, is_seven, just_emp, signature, returns_seven, calling_function, calling_module, some_cell, forgetting_function, forgetting_module, loading_function, loading_module, is_above, adding_function, adding_module}
 use Rattle.bed_sat.proofs.ConditionLaws.{written-Assign, written-Compute, written-Load, written-Call, written-If, written-While, written-Return, written-Hint, written-Find, part-Assign, part-Compute, part-Load, part-Call, part-If, part-While, part-Return, part-Hint}
 
@@ -21,7 +21,7 @@ counting_written : written counting_function.body ≡ counting_function.body
 counting_written = rw (written-Assign, written-While, written-Compute, written-Return) refl
 
 -- the conditions of a module of one function, by its body as it is written out
-one_function : (m : Module) (f : Function) (body : List Stmt) → m.functions ≡ f ∷ [] → written f.body ≡ body
+pub one_function : (m : Module) (f : Function) (body : List Stmt) → m.functions ≡ f ∷ [] → written f.body ≡ body
     → conditions m ≡ (body_part (site_of m f) body).owes (path_at_entry (first_signature m.signatures f.signature.bytes))
 one_function m f body is out =
     ap (λ (fs : List Function). flat_map (function_conditions m) fs) is

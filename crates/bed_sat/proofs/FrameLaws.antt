@@ -41,7 +41,7 @@ set_words_other ν (x ∷ xs) (v ∷ vs) name none =
     set_words_other (set_word ν (Named x.bytes) v) xs vs name (λ j y at same. none (suc j) y at same)
     ∙ set_other ν x.bytes name v (λ e. none 0 x refl (sym e))
 
-some_same : {A : Type 0} {x y : A} → ◌≡◌ {A = Option A} (Some x) (Some y) → x ≡ y
+pub some_same : {A : Type 0} {x y : A} → ◌≡◌ {A = Option A} (Some x) (Some y) → x ≡ y
 some_same e = cc
 
 -- a parameter has the argument in its place

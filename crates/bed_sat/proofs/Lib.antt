@@ -23,3 +23,8 @@ pub mod RefutedExamples
 pub mod WrittenLaws
 pub mod PathLaws
 pub mod WrittenCode
+pub mod SoundExamples
+pub mod OutsideExamples
+pub mod LinkExamples
+pub mod BodyExamples
+pub mod LivePaths

@@ -8,6 +8,7 @@ use Rattle.bed_lang.specs.declared.module.Module.{Module}
 use Rattle.bed_lang.specs.declared.statement.Stmt.{Stmt, fold_out-Stmt}
 use Rattle.bed_lang.specs.declared.statement.StmtKind.{StmtKind-F, Return, fold-roll-StmtKind}
 use Rattle.bed_lang.specs.declared.statement.StmtKind.TheVariants.{rolls-Return}
+use Rattle.bed_lang.specs.Lookups.{first_signature}
 use Rattle.bed_table.specs.Pieces.{Piece, sequence}
 use Rattle.bed_table.specs.CodeTable.{entry, answer}
 use Rattle.bed_table.specs.Code.{kind_row, statement_row, kind_piece, piece, body_piece, params_of, locals_of, function_piece}
@@ -15,7 +16,7 @@ use Rattle.bed_table.specs.Layout.{define, Placed, placed_from, total_size, code
 use Rattle.bed_table.proofs.SizeLaws.{code_is_sized}
 use Rattle.bed_sat.specs.Sound.{FunctionAt, IsSound}
 use Rattle.bed_sat.specs.Returns.{ReturnValue, OfNumber, OfArgument, return_code, AreReturns}
-use Rattle.bed_sat.specs.Linking.{first_signature, with_function, functions_at, loops_at, linked}
+use Rattle.bed_sat.specs.Linking.{with_function, functions_at, loops_at, linked}
 use Rattle.bed_sat.specs.ReturnModules.{OperandSays, IsReturnFunction, AreReturnFunctions}
 use Rattle.bed_sat.proofs.ReturnLaws.{return_program_sound}
 

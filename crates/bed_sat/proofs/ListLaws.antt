@@ -7,11 +7,12 @@ use Rattle.bed_lang.specs.Values.{Values, Named, set_word, set_list, value, list
 use Rattle.bed_lang.proofs.ValueLaws.{value-Number, value-Var, value-Add, list_value-Var, list_value-Nil, list_value-Cons}
 use Rattle.bed_sat.specs.Parts.{Joins}
 use Rattle.bed_sat.specs.Cells.{IsCell}
-use Rattle.bed_sat.specs.Assertions.{WordValue, ListValue, blank, set_params, World, predicate_of, meaning}
+use Rattle.bed_sat.specs.Assertions.{WordValue, ListValue, blank, set_params, World, meaning}
 use Rattle.bed_lang.specs.Prelude.{name, word, sequence, lseg, empty_segment, longer_segment}
+use Rattle.bed_lang.specs.Lookups.{predicate_named}
 use Rattle.bed_sat.proofs.PartLaws.{joins_comm, to_empty}
 
-module _ (w : World) (is : predicate_of w.decls (codes "lseg") ≡ Some lseg) where
+module _ (w : World) (is : predicate_named w.decls (codes "lseg") ≡ Some lseg) where
   word_value : (ν : Values) (x : List ℕ) → value w.labels ν (word x) ≡ wrap (ν.words (Named x))
   word_value ν x = value-Var w.labels ν (var.Named (name x))
 

@@ -12,12 +12,12 @@ use Rattle.bed_lang.specs.declared.statement.Stmt.{Stmt, roll-Stmt, ind-Stmt, fo
 use Rattle.bed_lang.specs.declared.statement.StmtKind.{StmtKind, StmtKind-F, roll-StmtKind, map-StmtKind, fold-roll-StmtKind, Return}
 use Rattle.bed_lang.specs.Values.{Values}
 use Rattle.bed_lang.proofs.ValueLaws.{value-Number, value-Var, value-Label}
+use Rattle.bed_lang.specs.Lookups.{first_signature}
 use Rattle.bed_table.specs.Pieces.{Piece, sequence, falls_after}
 use Rattle.bed_table.specs.Code.{kind_row, statement_row, kind_piece, piece, body_piece}
 use Rattle.bed_sat.specs.Written.{written}
 use Rattle.bed_sat.specs.Conditions.{turned, Site, Path, Part, in_order, path_at_entry, site_of, part_step, choice, where_true, where_false, kind_part_step, kind_part, statement_part, body_part}
 use Rattle.bed_sat.specs.Valid.{AreRelated, operand_value, IsTrueTest}
-use Rattle.bed_sat.specs.Linking.{first_signature}
 use Rattle.bed_sat.specs.ConditionLaws.{NegationsDecide, PathsEnd, ReturnsOweOne, OperandsAreTerms}
 use Rattle.bed_sat.proofs.ConditionLaws.{written-Return, part-Return}
 

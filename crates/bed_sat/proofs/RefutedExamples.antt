@@ -14,10 +14,11 @@ use Rattle.bed_lang.specs.declared.condition.Decls.{Decls}
 use Rattle.bed_lang.specs.Prelude.{name, word}
 use Rattle.bed_lang.specs.Values.{Values, Named, Answer, set_word, value}
 use Rattle.bed_lang.proofs.ValueLaws.{value-Var}
+use Rattle.bed_lang.specs.Lookups.{second_of, function_signature}
 use Rattle.bed_sat.specs.Cells.{IsCell}
 use Rattle.bed_sat.specs.Assertions.{World}
-use Rattle.bed_sat.specs.Linking.{declarations, first_signature}
-use Rattle.bed_sat.specs.Valid.{function_signature, After, GoalHolds, LabelsFit, set_local, Starts, IsValid}
+use Rattle.bed_sat.specs.Linking.{declarations}
+use Rattle.bed_sat.specs.Valid.{After, GoalHolds, LabelsFit, set_local, Starts, IsValid}
 use Rattle.bed_sat.specs.Examples.{bytes_at}
 use Rattle.bed_sat.specs.ConditionExamples.{function_of, module_of, signature, just_emp, y, some_cell, forgetting_function, forgetting_module, ForgottenCellExample, loading_function, loading_module, UnmappedLoadExample, is_above, adding_function, adding_module, WrappingSumExample}
 use Rattle.bed_sat.proofs.PartLaws.{to_empty}
@@ -26,15 +27,15 @@ use Rattle.bed_sat.proofs.ConditionExamples.{forgets, forgetting_conditions, loa
 use Rattle.bed_sat.proofs.ValidExamples.{emp_is, emp_holds, fact_is}
 
 -- the declarations of a module of one function, and a world in which each address is of code with the signature S
-abbrev decls_of : Signature → Function → Decls
+abbrev pub decls_of : Signature → Function → Decls
 decls_of S f = declarations (module_of S f ∷ [])
 
-abbrev world_of : Signature → Function → World
+abbrev pub world_of : Signature → Function → World
 world_of S f = record { decls = decls_of S f; codes = λ a. Some (codes "S"); labels = λ x. 0 }
 
-some_S : (b : Bool) (l : Name × Name) (found : List ℕ) → l.1.bytes ≡ codes "S" → option_map (λ k. k.1.bytes) (if b then Some l else None) ≡ Some found
-    → Some (codes "S") ≡ Some found
-some_S true l found is e = ap Some (sym is) ∙ e
+some_S : (b : Bool) (l : Name × Name) (found : Name) → l.1.bytes ≡ codes "S" → second_of (if b then Some l else None) ≡ Some found
+    → Some (codes "S") ≡ Some found.bytes
+some_S true l found is e = ap Some (sym is) ∙ ap (λ o. option_map (λ (n : Name). n.bytes) o) e
 some_S false l found is e = absurd (cc)
 
 -- what is claimed there where a condition is valid
@@ -48,18 +49,18 @@ module _ (params : List Name) (pre post : Assertion) (locals : List Name) (body 
   fits : LabelsFit (world_of S f)
   fits x found e = some_S (bytes_eq (codes "f") x) (name (codes "f"), name (codes "S")) found refl e
 
-  claims : (c : Cond) → c.function ≡ name (codes "f") → IsValid (decls_of S f) c → (ν : Values) (h : Memory)
+  pub claims : (c : Cond) → c.function ≡ name (codes "f") → IsValid (decls_of S f) c → (ν : Values) (h : Memory)
       → Starts (world_of S f) (Some S) c ν h → After (λ x. 0) c.actions (GoalHolds (world_of S f) (Some S) c.goal) ν h
   claims c is valid ν h starts =
       let same : function_signature (decls_of S f) c.function ≡ Some S = ap (function_signature (decls_of S f)) is in
       subst (λ T. Starts (world_of S f) T c ν h → After (λ x. 0) c.actions (GoalHolds (world_of S f) T c.goal) ν h) same
       (valid.holds (λ a. Some (codes "S")) (λ x. 0) fits ν h) starts
 
-not_there : (n : ℕ) → ◌≡◌ {A = Option ℕ} (Some n) None → ⊥
+pub not_there : (n : ℕ) → ◌≡◌ {A = Option ℕ} (Some n) None → ⊥
 not_there n e = absurd (cc)
 
 -- each variable has this word
-abbrev each_is : ℕ → Values
+abbrev pub each_is : ℕ → Values
 each_is n = record { words = λ x. n; lists = λ x. [] }
 
 forgets_refuted : IsValid (declarations (forgetting_module ∷ [])) forgets → ⊥

@@ -1,10 +1,9 @@
--- Steps and runs: which step a state makes, and what holds at each state of a run, by the number of its turns.
-use Rattle.std.proofs.Common.{◌≡◌, ℕ, zero, suc, ◌<◌, None, IsSome, Result, Ok, List, [], ◌∷◌, ◌++◌, All, sym, subst, arith}
-use Rattle.bed_machine.specs.declared.machine.Fault.{Fault}
+-- Runs: what holds at each state of a run, by the number of its turns.
+use Rattle.std.proofs.Common.{◌≡◌, ℕ, zero, suc, ◌<◌, None, IsSome, List, [], ◌∷◌, ◌++◌, All, sym, subst, arith}
 use Rattle.bed_machine.specs.Memory.{Memory}
 use Rattle.bed_machine.specs.MachineCode.{MachineCode}
-use Rattle.bed_machine.specs.Machine.{MachineState, IsState, IsStep}
-use Rattle.bed_machine.proofs.StepLaws.{Goes, goes_inside, goes_only, step_only, step_state}
+use Rattle.bed_machine.specs.Machine.{MachineState, IsState}
+use Rattle.bed_machine.proofs.StepLaws.{Goes, goes_inside, goes_only, step_state}
 use Rattle.bed_lang.specs.Values.{Values}
 use Rattle.bed_sat.specs.Assertions.{World}
 use Rattle.bed_sat.specs.Runs.{Outside, Turn, Steps, Answers, IsRun}
@@ -74,10 +73,3 @@ module _ (p : Linked) (X : Outside) (f : FunctionAt) (ν : Values) (s0 : Machine
         over : (u : MachineState) → Turns s u → ⊥
         over u (Steps new step) = new at
         over u (Answers new some honest ok apart) = new at
-
-ok_same : {t u : MachineState} → ◌≡◌ {A = Result MachineState Fault} (Ok t) (Ok u) → t ≡ u
-ok_same e = cc
-
--- a state steps to one state at most
-pub step_unique : (c : MachineCode) (s t u : MachineState) → IsStep c s (Ok t) → IsStep c s (Ok u) → t ≡ u
-step_unique c s t u first second = ok_same (step_only c s (Ok t) (Ok u) first second)

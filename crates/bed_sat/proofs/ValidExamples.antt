@@ -18,7 +18,7 @@ use Rattle.bed_sat.specs.Facts.{IsTrueFact}
 use Rattle.bed_sat.specs.Assertions.{World, Holds}
 use Rattle.bed_sat.specs.Linking.{declarations}
 use Rattle.bed_sat.specs.Valid.{set_local, IsValid}
-use Rattle.bed_sat.specs.ConditionExamples.{name_at, word_at, counting_signature, counting_module, counting_begins, counting_goes_on, counting_ends, CountingIsValidExample, y, just_emp, signature, returns_seven, imported_signature, calling_module, CallIsValidExample}
+use Rattle.bed_sat.specs.ConditionExamples.{name_at, word_at, counting_module, counting_begins, counting_goes_on, counting_ends, CountingIsValidExample, y, imported_signature, calling_module, CallIsValidExample}
 use Rattle.bed_sat.proofs.ConditionExamples.{counting_example, calls, returns, calling_conditions}
 use Rattle.bed_sat.proofs.PartLaws.{joins_empty, to_empty}
 
@@ -127,12 +127,12 @@ calls_valid = record {
       let sets : Values = set_word ν (Named (codes "x")) 7 in
       let nothing : h ≡ empty = emp_is w ν 0 h starts.holds in
       record {
-        name = codes "G";
+        name = name (codes "G");
         callee = imported_signature;
         named = refl;
         declared = refl;
         count = refl;
-        code = fit (codes "g") (codes "G") refl;
+        code = fit (codes "g") (name (codes "G")) refl;
         values = ν;
         given = h;
         rest = empty;

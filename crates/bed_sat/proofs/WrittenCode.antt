@@ -91,7 +91,7 @@ map-append (x ∷ xs) ys = ap (λ (l : List Piece). piece x ∷ l) (map-append x
 
 -- ---- a turn of the loop over a list, and the loop
 
-piece_roll : (x : StmtKind-F StmtKind Stmt) (at : ℕ) (k : StmtKind) → roll-StmtKind x ≡ k
+pub piece_roll : (x : StmtKind-F StmtKind Stmt) (at : ℕ) (k : StmtKind) → roll-StmtKind x ≡ k
     → piece (statement at k) ≡ kind_row (map-StmtKind _ _ _ _ kind_piece piece x)
 piece_roll x at k e =
     fold_out-Stmt Piece Piece kind_row statement_row (statement at k)
@@ -100,7 +100,7 @@ piece_roll x at k e =
 piece-Hint : (at : ℕ) (h : _) → piece (statement at (HintStmt h)) ≡ nothing
 piece-Hint at h = piece_roll (StmtKind-F.Hint h) at _ (rolls-Hint h)
 
-piece-Assign : (at : ℕ) (x : Name) (a : _) → piece (statement at (Assign x a)) ≡ assignment x a
+pub piece-Assign : (at : ℕ) (x : Name) (a : _) → piece (statement at (Assign x a)) ≡ assignment x a
 piece-Assign at x a = piece_roll (StmtKind-F.Assign x a) at _ (rolls-Assign x a)
 
 piece-Load : (at : ℕ) (x : Name) (p : _) → piece (statement at (Load x p)) ≡ load x p

@@ -1,6 +1,6 @@
 -- When an assertion holds on a part of memory. This is the classical reading of separation logic: the terms of an assertion
 -- take exactly the part, each a part of its own, and nothing is dropped.
-use Rattle.std.specs.Prelude.{◌≡◌, ℕ, zero, suc, Option, Some, List, [], ◌∷◌, find, bytes_eq, slice_get}
+use Rattle.std.specs.Prelude.{◌≡◌, ℕ, zero, suc, Option, Some, List, [], ◌∷◌, slice_get}
 use Rattle.bed_machine.specs.Memory.{Memory, empty}
 use Rattle.bed_lang.specs.declared.word.Sort.{Sort}
 use Rattle.bed_lang.specs.declared.word.Sort.TheVariants as sort
@@ -14,6 +14,7 @@ use Rattle.bed_lang.specs.declared.logic.Bind.{Bind}
 use Rattle.bed_lang.specs.declared.logic.Assertion.{Assertion}
 use Rattle.bed_lang.specs.declared.module.Predicate.{Predicate}
 use Rattle.bed_lang.specs.declared.condition.Decls.{Decls}
+use Rattle.bed_lang.specs.Lookups.{predicate_named}
 use Rattle.bed_lang.specs.Values.{Values, Named, set_word, set_list, value, list_value}
 use Rattle.bed_sat.specs.Parts.{Joins}
 use Rattle.bed_sat.specs.Cells.{IsCell, IsByte, IsBlock}
@@ -90,10 +91,6 @@ pub record World : Type 0 where
   pub codes : ℕ → Option (List ℕ)
   pub labels : List ℕ → ℕ
 
--- the first declared predicate of a name
-abbrev pub predicate_of : Decls → List ℕ → Option Predicate
-predicate_of d name = find (λ e. bytes_eq e.name.bytes name) d.predicates
-
 module _ (w : World) where
   -- The meaning of the predicates, to a depth of unfolding: at depth 0 none is true; at the next depth a predicate is true
   -- where one of its cases is true at this depth, with its parameters set to the arguments. One that isn't declared is never
@@ -101,7 +98,7 @@ module _ (w : World) where
   abbrev pub meaning : ℕ → Meaning
   meaning zero name vs h = ⊥
   meaning (suc depth) name vs h =
-      (d : Predicate) × (predicate_of w.decls name ≡ Some d)
+      (d : Predicate) × (predicate_named w.decls name ≡ Some d)
       × (number : ℕ) × (A : Assertion) × (slice_get d.cases number ≡ Some A)
       × IsTrueWith w.codes w.labels (meaning depth) (set_params blank d.params vs) A h
 

@@ -27,8 +27,8 @@ use Rattle.bed_lang.specs.declared.condition.Placed.{Placed}
 use Rattle.bed_lang.specs.declared.condition.Cond.{Cond}
 use Rattle.bed_lang.specs.declared.statement.Stmt.{Stmt, Stmt-F, fold-Stmt}
 use Rattle.bed_lang.specs.declared.statement.StmtKind.{StmtKind, StmtKind-F, fold-StmtKind}
+use Rattle.bed_lang.specs.Lookups.{first_signature}
 use Rattle.bed_table.specs.Code.{locals_of}
-use Rattle.bed_sat.specs.Linking.{first_signature}
 use Rattle.bed_sat.specs.Written.{written}
 
 -- a path from an annotated point: whether that is the entry, what holds there, and the actions and hints since then

@@ -1,12 +1,13 @@
 -- When a state meets a specification, by the conventions of the code: EBP is the address of the function's frame, ESI the
 -- return address, EAX the answer. A signature with k arguments and reserve r has a frame of 1 + k + r words: word 0 is for the
 -- return address, and words 1 to k hold the arguments.
-use Rattle.std.specs.Prelude.{◌≡◌, ℕ, zero, suc, ◌+◌, Option, List, [], ◌∷◌, ◌++◌, length, find, bytes_eq, unwrap_or}
+use Rattle.std.specs.Prelude.{◌≡◌, ℕ, zero, suc, ◌+◌, Option, List, [], ◌∷◌, ◌++◌, length, unwrap_or}
 use Rattle.bed_machine.specs.Memory.{Memory, wrap, word_at}
 use Rattle.bed_machine.specs.Machine.{MachineState}
 use Rattle.bed_lang.specs.declared.word.Name.{Name}
 use Rattle.bed_lang.specs.declared.logic.Assertion.{Assertion}
 use Rattle.bed_lang.specs.declared.module.Signature.{Signature}
+use Rattle.bed_lang.specs.Lookups.{signature_named}
 use Rattle.bed_lang.specs.Values.{Values, Named, Answer, set_word}
 use Rattle.bed_sat.specs.Parts.{JoinsAll, Includes}
 use Rattle.bed_sat.specs.Cells.{AreWordsAt, IsBlock}
@@ -37,7 +38,7 @@ arguments S s = arguments_at S s.regs.ebp s.memory
 
 -- the first declared signature of a name
 abbrev pub signature_of : World → List ℕ → Option Signature
-signature_of w name = find (λ S. bytes_eq S.name.bytes name) w.decls.signatures
+signature_of w name = signature_named w.decls name
 
 module _ (w : World) where
   -- A memory meets a precondition under these values, with these arguments, beside F: it is the disjoint union of the frame at

@@ -1,5 +1,6 @@
 -- What the definitions give: statements of laws.
-use Rattle.std.specs.Prelude.{◌≡◌, ◌↔◌, ℕ, ◌+◌, ◌*◌, ◌<◌, ◌≤◌, IsTrue, Option, Some, Ok, List, ◌++◌, length, slice_index, slice_set}
+use Rattle.std.specs.Prelude.{◌≡◌, ◌↔◌, ℕ, ◌+◌, ◌*◌, ◌<◌, ◌≤◌, IsTrue, Option, Some, Result, List, ◌++◌, length, slice_index, slice_set}
+use Rattle.bed_machine.specs.declared.machine.Fault.{Fault}
 use Rattle.bed_machine.specs.Memory.{Memory, wrap, word_at, put_word}
 use Rattle.bed_machine.specs.MachineCode.{MachineCode}
 use Rattle.bed_machine.specs.Machine.{MachineState, IsState, IsStep}
@@ -127,9 +128,9 @@ abbrev pub TurnsKeepStates : Type 0
 TurnsKeepStates =
     (w : World) (c : MachineCode) (X : Outside) (r0 : ℕ) (s t : MachineState) → IsState s → Turn w c X r0 s t → IsState t
 
--- a state steps to one state at most
+-- a step has one result: the state after it, or its fault
 abbrev pub StepsAreUnique : Type 0
-StepsAreUnique = (c : MachineCode) (s t u : MachineState) → IsStep c s (Ok t) → IsStep c s (Ok u) → t ≡ u
+StepsAreUnique = (c : MachineCode) (s : MachineState) (r q : Result MachineState Fault) → IsStep c s r → IsStep c s q → r ≡ q
 
 -- code of functions that only return a value is sound
 abbrev pub ReturnsAreSound : Type 0

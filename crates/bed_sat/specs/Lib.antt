@@ -18,3 +18,5 @@ pub mod Conditions
 pub mod Valid
 pub mod ConditionExamples
 pub mod ConditionLaws
+pub mod SoundExamples
+pub mod BodyExamples

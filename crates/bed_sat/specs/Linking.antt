@@ -10,6 +10,7 @@ use Rattle.bed_lang.specs.declared.condition.Decls.{Decls}
 use Rattle.bed_table.specs.Pieces.{Head}
 use Rattle.bed_table.specs.Layout.{Placed, placed, heads_at, label_address, outside_imports, code}
 use Rattle.bed_lang.specs.Prelude.{prelude}
+use Rattle.bed_lang.specs.Lookups.{first_signature}
 use Rattle.bed_sat.specs.Sound.{FunctionAt, LoopAt, ImportAt, Linked}
 
 -- the signatures, predicates, labels and imports of all modules, in their order
@@ -35,10 +36,6 @@ all_imports (m ∷ ms) = m.imports ++ all_imports ms
 -- the declarations of all modules, the prelude's predicates first
 abbrev pub declarations : List Module → Decls
 declarations ms = record { signatures = all_signatures ms; predicates = prelude ++ all_predicates ms; labels = all_labels ms }
-
--- the first signature of a name
-abbrev pub first_signature : List Signature → List ℕ → Option Signature
-first_signature signatures name = find (λ S. bytes_eq S.name.bytes name) signatures
 
 -- a function at its address with its signature, before others; nothing is said of one whose signature isn't declared
 abbrev pub with_function : Option Signature → Placed → List FunctionAt → List FunctionAt

@@ -6,9 +6,9 @@ use Rattle.bed_lang.specs.declared.module.Operand.TheVariants as operand
 use Rattle.bed_lang.specs.declared.module.Signature.{Signature}
 use Rattle.bed_lang.specs.declared.module.Function.{Function}
 use Rattle.bed_lang.specs.declared.statement.StmtKind.{Return}
+use Rattle.bed_lang.specs.Lookups.{first_signature}
 use Rattle.bed_table.specs.Words.{number_of}
 use Rattle.bed_sat.specs.Returns.{ReturnValue, OfNumber, OfArgument, IsReturnSignature}
-use Rattle.bed_sat.specs.Linking.{first_signature}
 
 -- an operand says the value: it is the number, or the local with this number, from 0
 abbrev pub OperandSays : List Name → Operand → ReturnValue → Type 0

@@ -1,6 +1,6 @@
 -- When a condition is valid: from its start its actions fail nowhere, and its goal holds after them, whatever the code map, the
 -- addresses of labels, the values of variables and the memory.
-use Rattle.std.specs.Prelude.{◌≡◌, ◌≢◌, ℕ, ◌+◌, ◌-◌, ◌*◌, ◌<◌, ◌≤◌, IsTrue, Option, Some, None, IsSome, option_map, option_and_then, List, [], ◌∷◌, map, length, take, find, Contains, bytes_eq, bit_and, bit_or, bit_xor}
+use Rattle.std.specs.Prelude.{◌≡◌, ◌≢◌, ℕ, ◌+◌, ◌-◌, ◌*◌, ◌<◌, ◌≤◌, IsTrue, Option, Some, None, IsSome, List, [], ◌∷◌, map, length, take, Contains, bit_and, bit_or, bit_xor}
 use Rattle.bed_machine.specs.Memory.{Memory, wrap, word_at, put_byte, put_word}
 use Rattle.bed_lang.specs.declared.word.Name.{Name}
 use Rattle.bed_lang.specs.declared.logic.Assertion.{Assertion}
@@ -20,10 +20,10 @@ use Rattle.bed_lang.specs.declared.condition.Goal.{Goal}
 use Rattle.bed_lang.specs.declared.condition.Goal.TheVariants.{Meets, Calls, Returns}
 use Rattle.bed_lang.specs.declared.condition.Cond.{Cond}
 use Rattle.bed_lang.specs.Values.{Values, Named, Old, Answer, set_word}
+use Rattle.bed_lang.specs.Lookups.{signature_named, label_signature, function_signature, count_of_params}
 use Rattle.bed_sat.specs.Parts.{Joins}
 use Rattle.bed_sat.specs.Assertions.{World, Holds}
 use Rattle.bed_sat.specs.Frames.{set_words}
-use Rattle.bed_sat.specs.Linking.{first_signature}
 
 -- what a statement's operation gives, modulo 2^32 or bit by bit
 abbrev pub op_result : Op → ℕ → ℕ → ℕ
@@ -41,21 +41,9 @@ AreRelated Unequal a b = a ≢ b
 AreRelated Less a b = a < b
 AreRelated AtMost a b = a ≤ b
 
--- the name of the signature of the first label of a name
-abbrev pub label_signature : Decls → List ℕ → Option (List ℕ)
-label_signature d f = option_map (λ l. l.1.bytes) (find (λ l. bytes_eq l.0.bytes f) d.labels)
-
--- the signature of a function: that of the first label of its name, where both are declared
-abbrev pub function_signature : Decls → Name → Option Signature
-function_signature d f = option_and_then (first_signature d.signatures) (label_signature d f.bytes)
-
-abbrev pub count_of_params : Option Signature → ℕ
-count_of_params None = 0
-count_of_params (Some S) = length S.params
-
 -- the name of a callee's signature: the one that is written after `via`, or that of the label
-abbrev pub callee_name : Decls → Operand → Option Name → Option (List ℕ)
-callee_name d target (Some name) = Some name.bytes
+abbrev pub callee_name : Decls → Operand → Option Name → Option Name
+callee_name d target (Some name) = Some name
 callee_name d (Label f) None = label_signature d f.bytes
 callee_name d target None = None
 
@@ -101,12 +89,12 @@ module _ (w : World) where
   --   for every answer, and every part beside that rest on which the postcondition holds for the same values, `after` holds on
   --   both together, with the answer in the assigned local.
   pub record CallHolds (target : Operand) (via : Option Name) (args : List Operand) (into : Name) (after : Assertion) (ν : Values) (h : Memory) : Type 0 where
-    pub name : List ℕ
+    pub name : Name
     pub callee : Signature
     pub named : callee_name w.decls target via ≡ Some name
-    pub declared : first_signature w.decls.signatures name ≡ Some callee
+    pub declared : signature_named w.decls name.bytes ≡ Some callee
     pub count : length args ≡ length callee.params
-    pub code : w.codes (operand_value w.labels ν target) ≡ Some name
+    pub code : w.codes (operand_value w.labels ν target) ≡ Some name.bytes
     pub values : Values
     pub given : Memory
     pub rest : Memory
@@ -133,7 +121,7 @@ module _ (w : World) where
 
   -- the code map has each label's signature at its address
   abbrev pub LabelsFit : Type 0
-  LabelsFit = (f name : List ℕ) → label_signature w.decls f ≡ Some name → w.codes (wrap (w.labels f)) ≡ Some name
+  LabelsFit = (f : List ℕ) (name : Name) → label_signature w.decls f ≡ Some name → w.codes (wrap (w.labels f)) ≡ Some name.bytes
 
 -- A condition is valid under these declarations where, for every code map and all addresses that fit the labels, all values and every
 -- memory, from its start its actions don't fail and lead to its goal.

@@ -2,7 +2,7 @@
 //! assertion and program.
 
 ghost use Rattle.bed_sat.specs.Laws.{PartsCommute, PartsAssociate, PartsCancel, DeeperIsTrue, PartIsRead, CellIsStored, SlotIsStored, SlotIsRead, RowSplits, RowsJoin, BlocksAreSmall, ScopeDecides, PlacesAreAside, SignaturesAreAside, MoreIsDeclared, SubstitutionAgrees, InstancesAgree, RunsBegin, TurnsKeepStates, StepsAreUnique, ReturnsAreSound};
-ghost use Rattle.bed_sat.specs.ConditionLaws.{ListLoopsAreWritten, CodeIsSame, PathsEnd, ReturnsOweOne, NegationsDecide, OperandsAreTerms};
+ghost use Rattle.bed_sat.specs.ConditionLaws.{ListLoopsAreWritten, CodeIsSame, PathsEnd, PathsGoOn, ReturnsOweOne, NegationsDecide, OperandsAreTerms};
 
 /// Disjoint parts: their order and their grouping don't matter, and a rest is unique.
 pub fn parts()
@@ -45,7 +45,7 @@ pub fn substitution()
     ensures terms { InstancesAgree }
 {}
 
-/// Runs: their beginnings are runs, each turn leads from a state to a state, and a step is unique.
+/// Runs: their beginnings are runs, each turn leads from a state to a state, and a step has one result.
 pub fn runs()
     ensures beginnings { RunsBegin }
     ensures states { TurnsKeepStates }
@@ -59,13 +59,15 @@ pub fn returns()
 {}
 
 /// The conditions of a text: in a body that is written out no `find` and no `walk` is left, and it has
-/// the same code; no path goes on after statements that can't fall through; and a function of one
-/// `return` owes one condition. The negation of a test is true exactly where the test is false, and the
-/// words of operands are those of terms.
+/// the same code; no path goes on after statements that can't fall through, and one does after those that
+/// do, where no statement follows one that can't; and a function of one `return` owes one condition. The
+/// negation of a test is true exactly where the test is false, and the words of operands are those of
+/// terms.
 pub fn conditions()
     ensures written { ListLoopsAreWritten }
     ensures code { CodeIsSame }
     ensures paths { PathsEnd }
+    ensures live_paths { PathsGoOn }
     ensures returns { ReturnsOweOne }
     ensures negations { NegationsDecide }
     ensures operands { OperandsAreTerms }

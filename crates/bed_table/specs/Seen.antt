@@ -1,11 +1,11 @@
 -- What the code's own values stand for.
 use Rattle.std.specs.Prelude.{◌≡◌, ℕ, ◌+◌, List, ◌++◌, map, length}
 use Rattle.bed_lang.specs.declared.word.Name.{Name}
+use Rattle.bed_lang.specs.Values.{wrap}
 use Rattle.bed_table.specs.declared.scope.Known.{Known}
 use Rattle.bed_table.specs.declared.scope.Scope.{Scope}
 use Rattle.bed_table.specs.declared.layout.Item.{Item}
 use Rattle.bed_table.specs.declared.symbols.SymbolTable.{SymbolTable}
-use Rattle.bed_table.specs.Words.{wrap}
 use Rattle.bed_table.specs.Layout.{Label, Defined, address_of}
 use Rattle.bed_table.specs.Image.{Symbol, table_bytes}
 

@@ -1,10 +1,7 @@
 -- Words as bytes, and the places of locals in a frame.
 use Rattle.std.specs.Prelude.{ℕ, ◌+◌, ◌-◌, ◌*◌, ◌/◌, ◌%◌, List, [], ◌∷◌, length, bytes_eq, if◌then◌else◌}
 use Rattle.bed_lang.specs.declared.word.Name.{Name}
-
--- a number modulo 2^32
-abbrev pub wrap : ℕ → ℕ
-wrap n = n % 4294967296
+use Rattle.bed_lang.specs.Values.{wrap}
 
 -- the four bytes of a word, the lowest first
 abbrev pub word_bytes : ℕ → List ℕ

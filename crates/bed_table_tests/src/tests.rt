@@ -146,7 +146,11 @@ fn single(
     Ok(module)
 }
 
-fn built(alloc: Global, modules: &[Module], imports: &[(Name, u32)]) -> Result<Vec<u8>, Fail> {
+pub(crate) fn built(
+    alloc: Global,
+    modules: &[Module],
+    imports: &[(Name, u32)],
+) -> Result<Vec<u8>, Fail> {
     if code_length(modules) > 1048576 {
         Err("the code is too long")?;
         return Ok(Vec::new(alloc));

@@ -13,7 +13,8 @@ use Rattle.bed_names.specs.declared.error.NameError.TheVariants as name
 use Rattle.bed_read.specs.declared.whole.ReadError.{ReadError}
 use Rattle.bed_read.specs.declared.whole.ReadError.TheVariants as error
 use Rattle.bed_sat.specs.Linking.{linked}
-use Rattle.bed_sat.specs.Sound.{IsSound}
+use Rattle.bed_sat.specs.Runs.{Outside}
+use Rattle.bed_sat.specs.Sound.{IsOutsideOf, IsSound}
 use Rattle.bed_words.specs.declared.command.Command.{Command}
 use Rattle.bed_words.specs.declared.command.Command.TheVariants as command
 use Rattle.bed_words.specs.declared.command.CommandError.{CommandError}
@@ -22,14 +23,14 @@ use Rattle.bed_words.specs.declared.command.Job.{Job}
 use Rattle.bed_words.specs.Usage.{IsUsage, PassesLimit}
 use Rattle.bed_words.proofs.CommandLaws.{one_answer, one_command}
 use Rattle.bed_top.specs.Causes.{most_text, is_long, most_functions, function_count, unbuilt_file, unbuilt_word, broken_status, word_at, Asks, AreModules, Due, no_command, passes_limit, unbuilt_command, asks_link, Building, not_all_built, one_built, Scoping, not_scoped, all_scoped, Counting, too_many, few_enough, Reading, not_read, all_read, Measuring, too_long, all_short, read_status, name_status}
-use Rattle.bed_top.specs.Files.{HasRead, Leaves, LeavesBut}
+use Rattle.bed_top.specs.Files.{HasRead, Leaves, LeavesBut, KeepsCalm}
 use Rattle.bed_top.specs.Lines.{Reports, given, short, failed, both}
 use Rattle.bed_top.specs.Promises.{Ran, contents, Links, Headline, NoFault, IsAlike, Exactly, Counted, Yields, Words, Faults}
 use Rattle.bed_top.specs.Returns.{module_is_built, broken_condition}
 use Rattle.bed_top.specs.Work.{base, IsDue, Caused}
 use Rattle.bed_top.proofs.DueLaws.{one_due, measured_whole}
 use Rattle.bed_top.proofs.ReportLaws.{no_other}
-use Rattle.bed_top.proofs.ReturnLaws.{is_sound, module_resolved}
+use Rattle.bed_top.proofs.ReturnLaws.{has_outside, is_sound, module_resolved}
 use Rattle.bed_top.proofs.TextLaws.{one_list, none_refused, cut_texts, whole_texts, cut_contents}
 use Rattle.bed_top.specs.declared.status.Status.{Status}
 use Rattle.bed_top.specs.declared.status.Status.TheVariants.{Done, No, Usage, Syntax, Names, Limit, ReadFault, WriteFault, Memory, NotBuilt}
@@ -49,6 +50,7 @@ pub record IsLinkable (job : Job) (texts : List (List ℕ)) : Type 0 where
   pub linkable : Module
   pub read : AreModules texts (linkable ∷ [])
   pub built : module_is_built linkable ≡ true
+  pub stays : resolved linkable ≡ linkable
   pub kept : broken_condition linkable ≡ None
   pub few : length linkable.functions ≤ 1024
   pub no_long : list_any is_long texts ≡ false
@@ -158,6 +160,7 @@ module _ (job : Job) (texts : List (List ℕ)) where
         linkable = a;
         read = are;
         built = subst (λ (x : Module). module_is_built x ≡ true) same whole;
+        stays = same;
         kept = ap (λ (x : Module). broken_condition x) (sym same ∙ scoped) ∙ by_condition (broken_condition m) refl is;
         few = omega (arith, few);
         no_long = no_long;
@@ -205,13 +208,15 @@ module _ (words : List (List ℕ)) (old new : FilesState) (sink_old sink_new : S
       told_texts ran.job ran.texts old told read ∙ whole_texts (contents old ran.job)
       (sym (ap (list_any is_long) (told_texts ran.job ran.texts old told read) ∙ cut_texts (contents old ran.job)) ∙ l.no_long) in
       let same : h.1.0 ≡ l.linkable ∷ [] = one_list ran.texts h.1.0 (l.linkable ∷ []) h.1.1 l.read in
+      let scoped : map resolved h.1.0 ≡ l.linkable ∷ [] = ap (map resolved) same ∙ ap (λ (m : Module). m ∷ []) l.stays in
       record {
         job = ran.job;
         asked = done.0;
         modules = h.1.0;
         read = subst (λ ts. AreModules ts h.1.0) whole h.1.1;
         written = h.1.2 told;
-        sound = subst (λ (ms : List Module). IsSound (linked ms base [])) (sym same) (is_sound l.linkable l.built l.kept l.few);
+        sound = subst (λ (ms : List Module). IsSound (linked ms base [])) (sym scoped) (is_sound l.linkable l.built l.kept l.few);
+        outside = subst (λ (ms : List Module). (X : Outside) × IsOutsideOf (linked ms base []) X) (sym scoped) (has_outside l.linkable l.built);
       }
 
   pub headline : Headline words old new result
@@ -268,6 +273,10 @@ module _ (words : List (List ℕ)) (old new : FilesState) (sink_old sink_new : S
       by_answer (inl same) = subst (Leaves words old new) (sym same) ran.worked.leaves
       by_answer (inr (inl m)) = subst (Leaves words old new) (sym m) (all_but ran.due ran.worked.leaves)
       by_answer (inr (inr f)) = subst (Leaves words old new) (sym f.0) (all_but ran.due ran.worked.leaves)
+
+  -- the counts of the files after the answer
+  pub calm : KeepsCalm words old new
+  calm = ran.worked.calm
 
   caused_by : (s : Status) → result ≡ s → (s ≡ Memory → ⊥) → (s ≡ WriteFault true → ⊥) → Caused words ran.job ran.texts old new s
   caused_by s is memory sink = by_answer answer

@@ -15,8 +15,8 @@ use Rattle.bed_words.specs.Usage.{Answers}
 use Rattle.bed_words.proofs.CommandLaws.{one_command, one_answer}
 use Rattle.bed_top.specs.Causes.{is_long, first_misnamed, unbuilt_file, unbuilt_word, broken_status, read_status, name_status, word_at, Asks, FirstRefused, Due, no_command, passes_limit, unbuilt_command, asks_link, Building, not_all_built, one_built, Scoping, not_scoped, all_scoped, Counting, too_many, few_enough, Reading, not_read, all_read, Measuring, too_long, all_short}
 use Rattle.bed_top.specs.Returns.{broken_condition}
-use Rattle.bed_top.specs.Promises.{IsUnread, IsAlike}
-use Rattle.bed_top.proofs.TextLaws.{one_list, none_refused}
+use Rattle.bed_top.specs.Promises.{IsUnread, IsUnreadAt, IsAlike}
+use Rattle.bed_top.proofs.TextLaws.{one_list, none_refused, one_refused}
 use Rattle.bed_top.specs.declared.status.Status.{Status}
 use Rattle.bed_top.specs.declared.status.Status.TheVariants.{Done, No, Usage, Syntax, Names, Limit, ReadFault, WriteFault, Memory, NotBuilt}
 
@@ -24,7 +24,7 @@ same_alike : (s : Status) → IsAlike s s
 same_alike Done = refl
 same_alike (No condition rejected) = refl
 same_alike (Usage word) = refl
-same_alike (Syntax file line column kind) = tt
+same_alike (Syntax file line column kind) = refl
 same_alike (Names file line column kind) = refl
 same_alike (Limit which) = tt
 same_alike ReadFault = refl
@@ -68,28 +68,42 @@ refused_text k [] file text e h = absurd h
 refused_text k (t ∷ ts) file text e (inl h) = h.2
 refused_text k (t ∷ ts) file text e (inr h) = refused_text (k + 1) ts file text e h.2
 
-unread : (file : ℕ) (text : List ℕ) (e : ReadError) → (e ≡ error.Memory → ⊥) → IsUnread (read_status file text e)
-unread file text (error.BadByte at) other = tt
-unread file text (error.Unexpected at) other = tt
-unread file text (error.Number at) other = tt
+unread : (file : ℕ) (text : List ℕ) (e : ReadError) → (e ≡ error.Memory → ⊥) → IsUnreadAt file (read_status file text e)
+unread file text (error.BadByte at) other = refl
+unread file text (error.Unexpected at) other = refl
+unread file text (error.Number at) other = refl
 unread file text (error.Limit which at) other = tt
 unread file text error.Memory other = absurd (other refl)
 
-alike_unread : (s t : Status) → IsUnread s → IsUnread t → IsAlike s t
-alike_unread (Syntax file line column kind) t a b = b
-alike_unread (Limit which) t a b = b
-alike_unread Done t a b = absurd a
-alike_unread (No condition rejected) t a b = absurd a
-alike_unread (Usage word) t a b = absurd a
-alike_unread (Names file line column kind) t a b = absurd a
-alike_unread ReadFault t a b = absurd a
-alike_unread (WriteFault sink) t a b = absurd a
-alike_unread Memory t a b = absurd a
-alike_unread (NotBuilt what) t a b = absurd a
+some_unread : (file : ℕ) (s : Status) → IsUnreadAt file s → IsUnread s
+some_unread file (Syntax other line column kind) a = tt
+some_unread file (Limit which) a = tt
+some_unread file Done a = absurd a
+some_unread file (No condition rejected) a = absurd a
+some_unread file (Usage word) a = absurd a
+some_unread file (Names other line column kind) a = absurd a
+some_unread file ReadFault a = absurd a
+some_unread file (WriteFault sink) a = absurd a
+some_unread file Memory a = absurd a
+some_unread file (NotBuilt what) a = absurd a
+
+alike_unread : (file : ℕ) (s t : Status) → IsUnreadAt file s → IsUnreadAt file t → IsAlike s t
+alike_unread file (Syntax other line column kind) t a b = subst (λ k. IsUnreadAt k t) (sym a) b
+alike_unread file (Limit which) t a b = some_unread file t b
+alike_unread file Done t a b = absurd a
+alike_unread file (No condition rejected) t a b = absurd a
+alike_unread file (Usage word) t a b = absurd a
+alike_unread file (Names other line column kind) t a b = absurd a
+alike_unread file ReadFault t a b = absurd a
+alike_unread file (WriteFault sink) t a b = absurd a
+alike_unread file Memory t a b = absurd a
+alike_unread file (NotBuilt what) t a b = absurd a
 
 one_reading : (job : Job) (texts : List (List ℕ)) (s t : Status) → Reading job texts s → Reading job texts t → IsAlike s t
 one_reading job texts s t (not_read file text e a) (not_read other words f b) =
-    alike_unread _ _ (unread file text e (refused_text 0 texts file text e a)) (unread other words f (refused_text 0 texts other words f b))
+    alike_unread file (read_status file text e) (read_status other words f) (unread file text e (refused_text 0 texts file text e a))
+    (subst (λ k. IsUnreadAt k (read_status other words f)) (sym (one_refused 0 texts file other text words e f a b))
+    (unread other words f (refused_text 0 texts other words f b)))
 one_reading job texts s t (not_read file text e a) (all_read ms u are h) = absurd (none_refused 0 texts ms file text e are a)
 one_reading job texts s t (all_read ms u are h) (not_read file text e b) = absurd (none_refused 0 texts ms file text e are b)
 one_reading job texts s t (all_read ms u are h) (all_read ns v also k) =

@@ -1,5 +1,5 @@
 -- From the work to the printed line, and from the parts of the work to the whole.
-use Rattle.std.proofs.Common.{◌≡◌, ℕ, ◌≤◌, ◌++◌, true, false, IsTrue, List, [], ◌∷◌, length, take, Option, Some, None, Ok, Vec, vec_len, refl, sym, ◌∙◌, ap, subst, arith}
+use Rattle.std.proofs.Common.{◌≡◌, ℕ, ◌≤◌, ◌++◌, true, false, IsTrue, IsSome, All, List, [], ◌∷◌, length, take, Option, Some, None, Ok, Vec, vec_len, refl, sym, ◌∙◌, ap, subst, arith}
 use Rattle.std.specs.List.{list_any}
 use Rattle.std.proofs.lemmas.List.{length-map}
 use Rattle.std.specs.declared.alloc.Global.{Global}
@@ -98,7 +98,10 @@ done_after job texts n old mid new x r s ends p = record {
     reads = omega (arith, r.goes_on.reads, p.goes_on.reads);
     writes = omega (arith, r.goes_on.writes, p.goes_on.writes);
   };
-  calm = λ told calm all. (p.reads ∙ r.stays_calm told calm all, p.calm (r.goes_on.calm ∙ calm) ∙ r.writes_stay);
+  calm = λ told calm all. record {
+    reads = p.reads ∙ r.stays_calm told calm all;
+    writes = p.calm (r.goes_on.calm ∙ calm) ∙ r.writes_stay;
+  };
 }
 
 pub long_texts : (buffers : List (Vec ℕ Global)) → list_any is_long (texts_of buffers) ≡ list_any holds_long buffers
@@ -235,7 +238,7 @@ module _ (words : List (List ℕ)) (job : Job) (files : FilesState) where
     caused = refused_caused s h;
     leaves = unchanged s;
     goes_on = record { tells = refl; calm = refl; reads = omega arith; writes = omega arith };
-    calm = λ calm all. (refl, refl);
+    calm = record { link = λ calm other asks all. record { reads = refl; writes = refl }; untouched = λ none. refl };
   }
     where
       but : LeavesBut words files files
@@ -259,7 +262,11 @@ job_worked words job texts n old new s asked tells h = record {
   caused = job_caused words job asked old new texts n s h.caused;
   leaves = job_leaves words job asked old new s h.leaves;
   goes_on = h.goes_on;
-  calm = λ calm. h.calm (tells calm) calm;
+  calm = record {
+    link = λ calm other asks all. h.calm (tells calm) calm
+        (subst (λ (j : Job). All (λ file. IsSome (old.held file)) j.modules) (no_other words other job asks asked) all);
+    untouched = λ none. absurd (none job asked);
+  };
 }
 
 pub texts_counted : (buffers : Vec (Vec ℕ Global) Global) → length (texts_of buffers.items) ≡ vec_len buffers

@@ -1,5 +1,5 @@
 -- What the built modules are: functions that return what their signatures promise. Scoping changes nothing in them.
-use Rattle.std.proofs.Common.{◌≡◌, ℕ, zero, suc, ◌+◌, ◌≤◌, Bool, true, false, ◌||◌, ◌&&◌, not, nat_eq, Option, Some, None, option_and_then, List, [], ◌∷◌, map, length, bytes_eq, slice_get, refl, sym, ◌∙◌, ap, subst, arith, if◌then◌else◌}
+use Rattle.std.proofs.Common.{◌≡◌, ℕ, zero, suc, ◌+◌, ◌++◌, ◌≤◌, ◌<◌, Bool, true, false, ◌||◌, ◌&&◌, not, nat_eq, Option, Some, None, option_and_then, List, [], ◌∷◌, map, length, bytes_eq, slice_get, refl, sym, ◌∙◌, ap, subst, arith, if◌then◌else◌}
 use Rattle.std.specs.List.{list_all}
 use Rattle.std.specs.Cmp.{unsigned_Decides}
 use Rattle.std.proofs.lemmas.Slice.Eq.{bytes_eq-Decides}
@@ -18,20 +18,23 @@ use Rattle.bed_lang.specs.declared.module.Operand.TheVariants as operand
 use Rattle.bed_lang.specs.declared.module.Signature.{Signature}
 use Rattle.bed_lang.specs.declared.module.Function.{Function}
 use Rattle.bed_lang.specs.declared.module.Module.{Module}
+use Rattle.bed_lang.specs.declared.module.Import.{Import}
 use Rattle.bed_lang.specs.declared.module.Predicate.{Predicate}
 use Rattle.bed_lang.specs.declared.statement.Stmt.{Stmt, fold_out-Stmt}
 use Rattle.bed_lang.specs.declared.statement.StmtKind.{StmtKind, StmtKind-F, Return, out-StmtKind, roll-StmtKind, out-roll-StmtKind, map-StmtKind, fold_out-StmtKind}
 use Rattle.bed_lang.specs.declared.statement.StmtKind.TheVariants.{rolls-Return, rolls-Assign, rolls-Compute, rolls-Load, rolls-LoadByte, rolls-Store, rolls-StoreByte, rolls-Call, rolls-If, rolls-While, rolls-Hint, rolls-Find, rolls-Walk}
 use Rattle.bed_lang.specs.Same.{same_name}
 use Rattle.bed_table.specs.Words.{number_of}
-use Rattle.bed_table.specs.Layout.{code_length}
+use Rattle.bed_table.specs.Layout.{code_length, label_address, outside_imports}
 use Rattle.bed_sat.specs.Returns.{ReturnValue, OfNumber, OfArgument, Says}
 use Rattle.bed_sat.specs.ReturnModules.{OperandSays, IsReturnFunction, AreReturnFunctions}
-use Rattle.bed_sat.specs.Linking.{first_signature, linked}
-use Rattle.bed_sat.specs.Sound.{IsSound}
+use Rattle.bed_sat.specs.Linking.{imports_at, linked}
+use Rattle.bed_sat.specs.Runs.{Outside}
+use Rattle.bed_sat.specs.Sound.{ImportAt, IsOutsideOf, IsSound}
 use Rattle.bed_sat.proofs.LinkingLaws.{return_module_sound, return_module_short}
 use Rattle.bed_top.specs.Returns.{only, has_name, all_differ, is_empty, is_emp, is_empty_memory, is_answer, answer_of, promised_word, is_value_layer, is_value, signature_is_built, returned_of, returned_operand, is_number_or_local, function_is_built, module_is_built, says_same_layer, says_same, says_both, keeps_promise, first_broken, broken_condition}
 use Rattle.bed_lang.specs.declared.condition.Decls.{Decls}
+use Rattle.bed_lang.specs.Lookups.{first_signature}
 use Rattle.bed_names.specs.Declarations.{declarations, signature_named}
 use Rattle.bed_names.specs.Terms.{Visible, with_names}
 use Rattle.bed_names.specs.Modules.{plain, signature_names, function_visible}
@@ -330,6 +333,36 @@ pub is_sound : (m : Module) → module_is_built m ≡ true → broken_condition 
 is_sound m built none few =
     let short = is_short m built none few in
     return_module_sound m base [] (are_return_functions m built none) (omega (arith, short))
+
+-- It has no imports, so an outside of no functions is one for it.
+
+no_imports : (address : List ℕ → ℕ) (names : List Name) → imports_at address [] names ≡ []
+no_imports address [] = refl
+no_imports address (n ∷ ns) = no_imports address ns
+
+abbrev no_function : Outside
+no_function a = None
+
+pub has_outside : (m : Module) → module_is_built m ≡ true → (X : Outside) × IsOutsideOf (linked (m ∷ []) base []) X
+has_outside m built = (
+  no_function,
+  record {
+    imports = λ i listed.
+        let less : listed.0 < 0 = subst (λ (is : List ImportAt). listed.0 < length is) none listed.1 in absurd (omega (arith, less));
+    declared = λ a name is. let no : ◌≡◌ {A = Option (List ℕ)} None (Some name) = is in absurd (cc);
+    apart = λ a is. refl;
+  },
+)
+  where
+    imports : m.imports ≡ []
+    imports =
+        let others = and_second (is_empty m.predicates) _ built in
+        empty m.imports (and_first (is_empty m.imports) _ others)
+
+    none : (linked (m ∷ []) base []).imports ≡ []
+    none =
+        ap (λ (is : List Import). imports_at (label_address (m ∷ []) base []) (is ++ []) (outside_imports (m ∷ []))) imports
+        ∙ no_imports (label_address (m ∷ []) base []) (outside_imports (m ∷ []))
 
 -- Scoping changes nothing in a built module: it has no bare argument.
 

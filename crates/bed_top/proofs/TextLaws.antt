@@ -1,5 +1,5 @@
 -- Lists of texts: their modules are one list at most, and none of them is refused where all are modules. And texts that are cut where they are too long.
-use Rattle.std.proofs.Common.{◌≡◌, ℕ, ◌+◌, ◌≤◌, ◌<◌, Bool, true, false, ◌||◌, List, [], ◌∷◌, length, map, take, take_all, length-take-le, nat_lt, inl, inr, refl, ap, arith}
+use Rattle.std.proofs.Common.{◌≡◌, ℕ, ◌+◌, ◌≤◌, ◌<◌, Bool, true, false, ◌||◌, List, [], ◌∷◌, length, map, take, take_all, length-take-le, nat_lt, inl, inr, refl, sym, ◌∙◌, ap, arith}
 use Rattle.std.specs.List.{list_any}
 use Rattle.std.proofs.lemmas.Bool.Decides.{nat_tests}
 use Rattle.bed_io.specs.Files.{up_to}
@@ -22,6 +22,15 @@ none_refused k [] ms file text e are h = absurd h
 none_refused k (t ∷ ts) [] file text e are h = absurd are
 none_refused k (t ∷ ts) (m ∷ ms) file text e are (inl h) = h.2 (not_refused t m e are.0 h.3)
 none_refused k (t ∷ ts) (m ∷ ms) file text e are (inr h) = none_refused (k + 1) ts ms file text e are.1 h.2
+
+-- one text is the first that is no module
+pub one_refused : (k : ℕ) (texts : List (List ℕ)) (file other : ℕ) (text words : List ℕ) (e f : ReadError) → FirstRefused k texts file text e
+    → FirstRefused k texts other words f → file ≡ other
+one_refused k [] file other text words e f a b = absurd a
+one_refused k (t ∷ ts) file other text words e f (inl a) (inl b) = a.0 ∙ sym b.0
+one_refused k (t ∷ ts) file other text words e f (inl a) (inr b) = absurd (a.2 (not_refused t b.0 e b.1 a.3))
+one_refused k (t ∷ ts) file other text words e f (inr a) (inl b) = absurd (b.2 (not_refused t a.0 f a.1 b.3))
+one_refused k (t ∷ ts) file other text words e f (inr a) (inr b) = one_refused (k + 1) ts file other text words e f a.2 b.2
 
 -- a cut text is too long exactly where the whole one is
 cut_long : (bytes : List ℕ) → is_long (up_to most_text bytes) ≡ is_long bytes

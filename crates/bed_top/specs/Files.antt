@@ -47,8 +47,12 @@ JobLeaves job old new (Limit which) = SameFiles old new
 JobLeaves job old new ReadFault = SameFiles old new
 JobLeaves job old new (NotBuilt what) = SameFiles old new
 
--- calm files that have every file that the words name to be read keep their counts
-abbrev pub StaysCalm : Job → FilesState → FilesState → Type 0
-StaysCalm job old new =
-    IsTrue old.calm → All (λ file. IsSome (old.held file)) job.modules
-    → (new.read_faults ≡ old.read_faults) × (new.write_faults ≡ old.write_faults)
+-- no count of faults changed
+pub record SameCounts (old new : FilesState) : Type 0 where
+  pub reads : new.read_faults ≡ old.read_faults
+  pub writes : new.write_faults ≡ old.write_faults
+
+-- Words that ask for no link touch no file, and calm files that have every file that the words ask to be read keep their counts.
+pub record KeepsCalm (words : List (List ℕ)) (old new : FilesState) : Type 0 where
+  pub link : IsTrue old.calm → (job : Job) → Asks words job → All (λ file. IsSome (old.held file)) job.modules → SameCounts old new
+  pub untouched : ((job : Job) → Asks words job → ⊥) → new ≡ old

@@ -18,7 +18,7 @@ use Rattle.bed_words.specs.declared.command.Command.{Command}
 use Rattle.bed_words.specs.Commands.{IsCommand}
 use Rattle.bed_words.specs.Limits.{limit_of}
 use Rattle.bed_words.specs.Usage.{IsUsage, PassesLimit}
-use Rattle.bed_top.specs.Files.{out_file, HasRead, JobLeaves, StaysCalm}
+use Rattle.bed_top.specs.Files.{out_file, HasRead, JobLeaves, SameCounts}
 use Rattle.bed_top.specs.Returns.{module_is_built}
 use Rattle.bed_top.specs.Work.{base, Ends}
 use Rattle.bed_top.specs.declared.lines.Numbers.{Numbers}
@@ -120,4 +120,4 @@ pub record JobDone (job : Job) (texts : List (List ℕ)) (n : Numbers) (old new 
   pub caused : JobCaused job texts n old new s
   pub leaves : JobLeaves job old new s
   pub goes_on : GoesOn old new
-  pub calm : IsTrue old.tells → StaysCalm job old new
+  pub calm : IsTrue old.tells → IsTrue old.calm → All (λ file. IsSome (old.held file)) job.modules → SameCounts old new

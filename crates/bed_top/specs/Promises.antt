@@ -8,8 +8,10 @@ use Rattle.bed_table.specs.Image.{image}
 use Rattle.bed_io.specs.Counts.{Rose}
 use Rattle.bed_io.specs.Files.{FilesState, bytes_of}
 use Rattle.bed_io.specs.Sink.{SinkState}
+use Rattle.bed_names.specs.Resolved.{resolved}
 use Rattle.bed_sat.specs.Linking.{linked}
-use Rattle.bed_sat.specs.Sound.{IsSound}
+use Rattle.bed_sat.specs.Runs.{Outside}
+use Rattle.bed_sat.specs.Sound.{IsOutsideOf, IsSound}
 use Rattle.bed_words.specs.declared.command.Job.{Job}
 use Rattle.bed_words.specs.Usage.{IsUsage, PassesLimit}
 use Rattle.bed_top.specs.Causes.{is_long, most_functions, function_count, Asks, AreModules, Due}
@@ -22,8 +24,6 @@ use Rattle.bed_top.specs.declared.status.Status.TheVariants.{Done, Usage, Syntax
 -- one run: what was read, the status of the work with its cause, and what was put
 pub record Ran (words : List (List ℕ)) (old new : FilesState) (sink_old sink_new : SinkState) (result : Status) : Type 0 where
   pub job : Job
-  -- words that ask for no link name no file
-  pub named : ((other : Job) → Asks words other → ⊥) → job.modules ≡ []
   pub texts : List (List ℕ)
   pub due : Status
   pub worked : Worked words job texts old new due
@@ -35,17 +35,18 @@ abbrev pub contents : FilesState → Job → List (List ℕ)
 contents files job = map (bytes_of files) job.modules
 
 -- Where the files tell their contents: the texts in the module files are those of modules, the image's file has the bytes of the
--- table for these modules, and the code in it is sound for them: from every start at an exported function that meets its
--- precondition, for every number of turns and every honest outside, no fault occurs, every function, loop head and outside
--- address is reached only in a state that meets what is written of it, the starter's other memory stays, and a return meets
--- the postcondition.
+-- table for these modules, and the code in it is sound for them, as their names are resolved: from every start at an exported
+-- function that meets its precondition, for every number of turns and every honest outside, no fault occurs, every function,
+-- loop head and outside address is reached only in a state that meets what is written of it, the starter's other memory stays,
+-- and a return meets the postcondition. There is an outside for the code, so that this says something.
 pub record Links (words : List (List ℕ)) (old new : FilesState) : Type 0 where
   pub job : Job
   pub asked : Asks words job
   pub modules : List Module
   pub read : AreModules (contents old job) modules
   pub written : new.held (out_file job) ≡ Some (image modules base [])
-  pub sound : IsSound (linked modules base [])
+  pub sound : IsSound (linked (map resolved modules) base [])
+  pub outside : (X : Outside) × IsOutsideOf (linked (map resolved modules) base []) X
 
 abbrev pub Headline : List (List ℕ) → FilesState → FilesState → Status → Type 0
 Headline words old new result = result ≡ Done → IsTrue old.tells → Links words old new
@@ -62,9 +63,16 @@ IsUnread (Syntax file line column kind) = Unit {0}
 IsUnread (Limit which) = Unit {0}
 IsUnread _ = ⊥
 
--- The same answer; of refusals by the reader and of limits, that it is one of these. Which one it is `Ran` says.
+-- this file's text is refused by the reader, or a limit is passed
+abbrev pub IsUnreadAt : ℕ → Status → Type 0
+IsUnreadAt file (Syntax other line column kind) = other ≡ file
+IsUnreadAt file (Limit which) = Unit {0}
+IsUnreadAt file _ = ⊥
+
+-- The same answer. Where the reader refuses a file's text, a refusal of that text or a limit; where a limit is passed, a limit or
+-- a refusal. Which one it is `Ran` says.
 abbrev pub IsAlike : Status → Status → Type 0
-IsAlike (Syntax file line column kind) s = IsUnread s
+IsAlike (Syntax file line column kind) s = IsUnreadAt file s
 IsAlike (Limit which) s = IsUnread s
 IsAlike due s = s ≡ due
 

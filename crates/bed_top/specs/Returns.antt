@@ -18,7 +18,7 @@ use Rattle.bed_lang.specs.declared.module.Module.{Module}
 use Rattle.bed_lang.specs.declared.statement.Stmt.{Stmt}
 use Rattle.bed_lang.specs.declared.statement.StmtKind.{StmtKind, StmtKind-F, out-StmtKind}
 use Rattle.bed_lang.specs.Same.{same_name}
-use Rattle.bed_sat.specs.Linking.{first_signature}
+use Rattle.bed_lang.specs.Lookups.{first_signature}
 
 -- the one element of a list of length 1
 abbrev pub only : {A : Type 0} → List A → Option A

@@ -6,7 +6,7 @@ use Rattle.bed_lang.specs.declared.module.Module.{Module}
 use Rattle.bed_table.specs.Image.{image}
 use Rattle.bed_words.specs.declared.command.Job.{Job}
 use Rattle.bed_top.specs.Causes.{Asks, AreModules, Due}
-use Rattle.bed_top.specs.Files.{out_file, HasRead, Leaves, StaysCalm}
+use Rattle.bed_top.specs.Files.{out_file, HasRead, Leaves, KeepsCalm}
 use Rattle.bed_top.specs.declared.status.Status.{Status}
 use Rattle.bed_top.specs.declared.status.Status.TheVariants.{Done, ReadFault, WriteFault, Memory}
 
@@ -33,8 +33,8 @@ Ends IsDue Written old new ReadFault = ⊥
 Ends IsDue Written old new Memory = Unit {0}
 Ends IsDue Written old new s = IsDue s
 
--- Why the work ends with a status: of a link that the words ask for, the read of the module file after those of these texts
--- failed; or it ends as is due by the words and the texts.
+-- Why the work ends with a status: of a link that the words ask for, one of the module files couldn't be read and the count of
+-- such faults rose (which of them, tests show); or it ends as is due by the words and the texts.
 abbrev pub Caused : List (List ℕ) → Job → List (List ℕ) → FilesState → FilesState → Status → Type 0
 Caused words job texts old new ReadFault = Asks words job × (length texts < length job.modules) × Rose old.read_faults new.read_faults
 Caused words job texts old new s = Ends (IsDue words job texts old) (Writes job texts old new) old new s
@@ -44,4 +44,4 @@ pub record Worked (words : List (List ℕ)) (job : Job) (texts : List (List ℕ)
   pub caused : Caused words job texts old new due
   pub leaves : Leaves words old new due
   pub goes_on : GoesOn old new
-  pub calm : StaysCalm job old new
+  pub calm : KeepsCalm words old new

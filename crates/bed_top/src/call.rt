@@ -3,7 +3,7 @@ ghost use Rattle.std.specs.Prelude.{◌≡◌, ◌≤◌, ◌<◌, ℕ, List, []
 ghost use Rattle.bed_words.specs.declared.command.Job.{Job};
 ghost use Rattle.bed_top.specs.Lines.{Reports, SinkGoesOn};
 ghost use Rattle.bed_top.specs.Outcomes.{texts_of, Counts, JobDone};
-ghost use Rattle.bed_top.specs.Files.{Leaves};
+ghost use Rattle.bed_top.specs.Files.{KeepsCalm, Leaves};
 ghost use Rattle.bed_top.specs.Promises.{Counted, Exactly, Faults, Headline, Ran, Words};
 
 use crate::asked::asked;
@@ -89,8 +89,8 @@ fn run<F: Files, K: Sink>(alloc: Global, words: &[String], files: &mut F, out: &
 ///
 /// `ran` is the whole: what was read, the status of the work with its cause, and what was put. The
 /// other clauses are read off it: what a link that is done promises, which answer is due, when
-/// words are refused and faults come, and which files are as before. Each host's log may have at
-/// most 1,000,000,000 entries.
+/// words are refused and faults come, and which files and counts are as before. Each host's log
+/// may have at most 1,000,000,000 entries.
 pub fn top<F: Files, K: Sink>(
     alloc: Global,
     words: &[String],
@@ -106,6 +106,7 @@ pub fn top<F: Files, K: Sink>(
     ensures words { Words (map string_bytes words.now) result }
     ensures faults { Faults (F.seen files.old) (F.seen files.new) (K.seen out.old) (K.seen out.new) result }
     ensures leaves { Leaves (map string_bytes words.now) (F.seen files.old) (F.seen files.new) result }
+    ensures calm { KeepsCalm (map string_bytes words.now) (F.seen files.old) (F.seen files.new) }
 {
     run(alloc, words, files, out)
 }

@@ -3,7 +3,7 @@ ghost use Rattle.std.specs.Prelude.{◌≡◌, ◌++◌, ℕ, List, codes, lengt
 ghost use Rattle.std.specs.Fmt.{decimal};
 ghost use Rattle.bed_words.specs.declared.command.Job.{Job};
 ghost use Rattle.bed_top.specs.Files.{out_file};
-ghost use Rattle.bed_top.specs.Lines.{labelled, linked_line, limit_text, place_text, rule_text, syntax_text, file_at, memory_line, IsLine};
+ghost use Rattle.bed_top.specs.Lines.{labelled, linked_line, limit_text, place_text, rule_text, syntax_text, file_at, IsLine};
 ghost use Rattle.bed_top.specs.Outcomes.{Counts};
 
 use crate::status::{NameKind, Status, SyntaxKind};
@@ -140,7 +140,8 @@ fn linked(alloc: Global, numbers: Numbers) -> Result<Vec<u8>, AllocError>
     )?.into_bytes())
 }
 
-/// The line of a status, where `count` texts were read.
+/// The line of a status, where `count` texts were read. Want of memory, the status or what the
+/// line met, has none: its line is put from a constant.
 pub(crate) fn line_of(
     alloc: Global,
     job: &Job,
@@ -182,7 +183,7 @@ pub(crate) fn line_of(
                 named(alloc, "write fault: ", out_name(job))
             }
         }
-        Status::Memory => Vec::from_slice(alloc, MEMORY),
+        Status::Memory => Err(AllocError),
         Status::NotBuilt { what } => named(alloc, "not built: ", what.as_slice()),
     }
 }

@@ -3,7 +3,7 @@ ghost use Rattle.std.specs.Prelude.{◌≡◌, ◌≤◌, ◌+◌, ◌<◌, ◌^
 ghost use Rattle.std.specs.List.{list_all};
 ghost use Rattle.bed_lang.specs.Same.{same_name};
 ghost use Rattle.bed_lang.specs.declared.word.Word.{out-Word};
-ghost use Rattle.bed_sat.specs.Linking.{first_signature};
+ghost use Rattle.bed_lang.specs.Lookups.{first_signature};
 ghost use Rattle.bed_top.specs.Returns.{all_differ, answer_of, broken_condition, equal_to_answer, first_broken, function_is_built, has_name, is_answer, is_emp, is_empty_memory, is_number_or_local, is_value, is_value_layer, keeps_promise as kept, module_is_built, only, promised_word, returned_operand, says_same, signature_is_built};
 
 use bed_lang::{

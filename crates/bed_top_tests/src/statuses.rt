@@ -2,6 +2,7 @@
 use bed_io::{Host, MemFiles, MemSink};
 use bed_top::top;
 use std::alloc::{AllocError, Global};
+use std::process::Abort;
 use std::test::Fail;
 
 /// Words over the files `m.bed`, or `a.bed` and `b.bed`, with the numbers of the calls of the files that fail and the room
@@ -15,6 +16,36 @@ struct Case {
     line: &'static [u8],
     image: Option<&'static [u8]>,
 }
+
+/// The second worked module, and a module that promises 8 and returns 7.
+const WORKED: [Case; 2] = [
+    Case {
+        words: &["link", "seven.img", "m.bed"],
+        files: &[(
+            b"m.bed",
+            b"module m;\nsignature I(x) pre emp post [result = x];\nexport function id: I { return x; }\n",
+        )],
+        fails: &[],
+        room: 100,
+        code: 0,
+        line: b"linked 1 modules, 1 functions, 1 conditions, 22 bytes\n",
+        image: Some(
+            b"BIM1\x00\x00\x40\x00\x16\x00\x00\x00\x01\x00\x00\x00\x01\x00\x00\x40\x00\x02id\x89\xB5\x00\x00\x00\x00\x8B\x8D\x04\x00\x00\x00\x8B\xC1\x8B\xB5\x00\x00\x00\x00\xFF\xE6",
+        ),
+    },
+    Case {
+        words: &["link", "seven.img", "m.bed"],
+        files: &[(
+            b"m.bed",
+            b"module m;\nsignature S() pre emp post [result = 8];\nexport function seven: S { return 7; }\n",
+        )],
+        fails: &[],
+        room: 100,
+        code: 1,
+        line: b"no: condition 1\n",
+        image: None,
+    },
+];
 
 const CASES: [Case; 12] = [
     Case {
@@ -178,37 +209,54 @@ const CASES: [Case; 12] = [
     },
 ];
 
-fn strings(alloc: Global, words: &[&str]) -> Result<Vec<String>, AllocError> {
+pub(crate) fn strings(alloc: Global, words: &[&str]) -> Result<Vec<String>, AllocError> {
     words
         .iter()
         .map(|word| String::from_str(alloc, word))
         .try_collect(alloc)
 }
 
+fn assert_case(rt: &(impl Abort + AllocGlobal), case: &Case) -> Result<(), Fail> {
+    let alloc = rt.alloc();
+    let mut files = MemFiles::new(alloc, case.fails.to_vec(alloc)?);
+    for (name, text) in case.files {
+        files.set(name, text)?;
+    }
+    let mut sink = MemSink::new(alloc, case.room, vec![in alloc; 2]?)?;
+    let words = strings(alloc, case.words)?;
+    let hosts: Vec<Box<dyn Host>> = Vec::new(alloc);
+    let status = top(alloc, &words, &mut files, &mut sink, hosts);
+    assert_eq!(rt; sink.taken(), case.line);
+    assert_eq!(rt; status.code(), case.code);
+    assert_eq!(rt; files.contents(b"seven.img"), case.image);
+    for (name, text) in case.files {
+        assert_eq!(rt; files.contents(name), Some(*text));
+    }
+    Ok(())
+}
+
 #[test]
 fn each_answer(rt: HostRuntime) -> Result<(), Fail> {
-    let alloc = rt.alloc();
     for case in &CASES {
-        let mut files = MemFiles::new(alloc, case.fails.to_vec(alloc)?);
-        for (name, text) in case.files {
-            files.set(name, text)?;
-        }
-        let mut sink = MemSink::new(alloc, case.room, vec![in alloc; 2]?)?;
-        let words = strings(alloc, case.words)?;
-        let hosts: Vec<Box<dyn Host>> = Vec::new(alloc);
-        let status = top(alloc, &words, &mut files, &mut sink, hosts);
-        assert_eq!(rt; sink.taken(), case.line);
-        assert_eq!(rt; status.code(), case.code);
-        assert_eq!(rt; files.contents(b"seven.img"), case.image);
-        for (name, text) in case.files {
-            assert_eq!(rt; files.contents(name), Some(*text));
-        }
+        assert_case(&rt, case)?;
+    }
+    Ok(())
+}
+
+#[test]
+fn worked_modules(rt: HostRuntime) -> Result<(), Fail> {
+    for case in &WORKED {
+        assert_case(&rt, case)?;
     }
     Ok(())
 }
 
 /// The line and the exit status of words over the file `m.bed`, all else going well.
-fn answer(alloc: Global, words: &[String], text: &[u8]) -> Result<(Vec<u8>, u8), AllocError> {
+pub(crate) fn answer(
+    alloc: Global,
+    words: &[String],
+    text: &[u8],
+) -> Result<(Vec<u8>, u8), AllocError> {
     let mut files = MemFiles::new(alloc, Vec::new(alloc));
     files.set(b"m.bed", text)?;
     let mut sink = MemSink::new(alloc, 100, Vec::new(alloc))?;

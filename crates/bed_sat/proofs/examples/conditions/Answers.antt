@@ -1,4 +1,5 @@
 use Rattle.bed_sat.proofs.ConditionExamples.{counting_example, joining_example, finding_example}
+use Rattle.bed_sat.proofs.LivePaths.{live_bodies_example}
 use Rattle.bed_sat.proofs.examples.conditions.Goals as goal
 
 pub returns-clause-counting : goal.returns-clause-counting
@@ -9,3 +10,6 @@ returns-clause-joining c = joining_example
 
 pub returns-clause-finding : goal.returns-clause-finding
 returns-clause-finding c = finding_example
+
+pub returns-clause-live : goal.returns-clause-live
+returns-clause-live c = live_bodies_example

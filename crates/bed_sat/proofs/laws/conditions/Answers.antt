@@ -1,6 +1,7 @@
 use Rattle.bed_sat.proofs.WrittenLaws.{list_loops_are_written}
 use Rattle.bed_sat.proofs.WrittenCode.{code_is_same}
 use Rattle.bed_sat.proofs.PathLaws.{paths_end, negations_decide, returns_owe_one, operands_are_terms}
+use Rattle.bed_sat.proofs.LivePaths.{paths_go_on}
 use Rattle.bed_sat.proofs.laws.conditions.Goals as goal
 
 pub returns-clause-written : goal.returns-clause-written
@@ -20,3 +21,6 @@ returns-clause-code c = code_is_same
 
 pub returns-clause-negations : goal.returns-clause-negations
 returns-clause-negations c = negations_decide
+
+pub returns-clause-live_paths : goal.returns-clause-live_paths
+returns-clause-live_paths c = paths_go_on

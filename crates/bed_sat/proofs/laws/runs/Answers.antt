@@ -1,4 +1,5 @@
-use Rattle.bed_sat.proofs.RunLaws.{run_prefix, turn_state, step_unique}
+use Rattle.bed_machine.proofs.StepLaws.{step_only}
+use Rattle.bed_sat.proofs.RunLaws.{run_prefix, turn_state}
 use Rattle.bed_sat.proofs.laws.runs.Goals as goal
 
 pub returns-clause-beginnings : goal.returns-clause-beginnings
@@ -8,4 +9,4 @@ pub returns-clause-states : goal.returns-clause-states
 returns-clause-states c = turn_state
 
 pub returns-clause-unique : goal.returns-clause-unique
-returns-clause-unique c = step_unique
+returns-clause-unique c = step_only

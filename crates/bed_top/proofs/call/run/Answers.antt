@@ -6,7 +6,6 @@ use Rattle.bed_top.proofs.call.run.Goals as goal
 pub returns-in-Ok : goal.returns-in-Ok
 returns-in-Ok g c = record {
   job = c.in-Ok.job;
-  named = λ none. absurd (none c.in-Ok.job c.in-Ok.ensures.ok);
   texts = texts_of c.work-due.new.texts.items;
   due = c.work-due.result.status;
   worked = job_worked _ c.in-Ok.job (texts_of c.work-due.new.texts.items) c.work-due.result.numbers (g.F.Files.seen c.args.files.now)
@@ -20,7 +19,6 @@ returns-in-Ok g c = record {
 pub returns-in-Err : goal.returns-in-Err
 returns-in-Err g c = record {
   job = c.no_job.result;
-  named = λ none. c.no_job.ensures;
   texts = [];
   due = c.refused.result.status;
   worked = nothing_done _ c.no_job.result (g.F.Files.seen c.args.files.now) c.refused.result.status

@@ -1,0 +1,63 @@
+-- What is owed of the two rules that go along a condition's path, in the order of the table of rules, and of a whole derivation: these
+-- are statements, which the checker of conditions will have to prove.
+use Rattle.std.specs.Prelude.{◌≡◌, ◌≢◌, ℕ, ◌<◌, IsTrue, List, [], ◌∷◌, Contains, Option, Ok}
+use Rattle.bed_machine.specs.Memory.{Memory}
+use Rattle.bed_lang.specs.declared.word.Name.{Name}
+use Rattle.bed_lang.specs.declared.word.Word.{Word}
+use Rattle.bed_lang.specs.declared.logic.Pure.{Pure}
+use Rattle.bed_lang.specs.declared.module.Signature.{Signature}
+use Rattle.bed_lang.specs.declared.condition.Decls.{Decls}
+use Rattle.bed_lang.specs.declared.condition.Cond.{Cond}
+use Rattle.bed_lang.specs.Values.{wrap, Values, Variable, Named, Fresh, value}
+use Rattle.bed_lang.specs.Lookups.{function_signature}
+use Rattle.bed_sat.specs.Assertions.{World}
+use Rattle.bed_sat.specs.Valid.{After, GoalHolds, LabelsFit, IsValid}
+use Rattle.bed_deriv.specs.declared.derivation.DArg.{DArg}
+use Rattle.bed_deriv.specs.declared.derivation.Deriv.{Deriv}
+use Rattle.bed_deriv.specs.declared.state.SymState.{SymState}
+use Rattle.bed_deriv.specs.Fresh.{IsKnownState, AreUnfresh, unfresh_goal, unfresh_condition, condition_size}
+use Rattle.bed_deriv.specs.Steps.{Rest, Onward, step, finish, onward_of}
+use Rattle.bed_deriv.specs.Derives.{Derives}
+use Rattle.bed_check_pure.specs.States.{StateHolds, AreTrueFacts}
+
+-- Values of a path beside those of a state: each local has the value of its term, and every other variable, but for fresh ones, the
+-- state's.
+pub record ReadsLocals (labels : List ℕ → ℕ) (ls : List (Name × Word)) (ν μ : Values) : Type 0 where
+  pub locals : (x : Name) (t : Word) → Contains ls (x, t) → wrap (μ.words (Named x.bytes)) ≡ value labels ν t
+  pub others : (y : Variable) → ((n : ℕ) → y ≢ Fresh n) → ((x : Name) (t : Word) → Contains ls (x, t) → y ≢ Named x.bytes)
+      → μ.words y ≡ ν.words y
+  pub lists : (y : Variable) → ((n : ℕ) → y ≢ Fresh n) → μ.lists y ≡ ν.lists y
+
+module _ (w : World) where
+  -- facts are true wherever a state holds
+  abbrev pub AreProved : SymState → List Pure → Type 0
+  AreProved s goals = (ν : Values) (h : Memory) → StateHolds w ν h s → AreTrueFacts w ν goals
+
+  -- the rest of a condition is closed: wherever its state holds, its actions fail nowhere and lead to its goal
+  abbrev pub Closes : Option Signature → Rest → Type 0
+  Closes S r =
+      (ν μ : Values) (h : Memory) → StateHolds w ν h r.state → ReadsLocals w.labels r.state.locals ν μ
+      → After w.labels r.actions (GoalHolds w S r.goal) μ h
+
+  abbrev pub AllClose : Option Signature → List Rest → Type 0
+  AllClose S [] = Unit {0}
+  AllClose S (r ∷ rs) = Closes S r × AllClose S rs
+
+-- a step closes a rest where its facts are proved and what it goes on with is closed
+abbrev pub StepCloses : Type 0
+StepCloses =
+    (w : World) (S : Option Signature) (r : Rest) (args : List DArg) (n : ℕ) (o : Onward) → onward_of (step w.decls r args n) ≡ Ok o
+    → LabelsFit w → AreUnfresh w.decls → IsKnownState r.state → AreProved w r.state o.goals → AllClose w S o.rests → Closes w S r
+
+-- an end closes a rest where its facts are proved
+abbrev pub FinishCloses : Type 0
+FinishCloses =
+    (w : World) (function : Name) (r : Rest) (args : List DArg) (n : ℕ) (o : Onward)
+    → onward_of (finish w.decls function r args n) ≡ Ok o → LabelsFit w → AreUnfresh w.decls → IsTrue (unfresh_goal r.goal)
+    → AreProved w r.state o.goals → Closes w (function_signature w.decls function) r
+
+-- a condition that has a derivation is valid
+abbrev pub DerivedIsValid : Type 0
+DerivedIsValid =
+    (d : Decls) (c : Cond) (t : Deriv) → AreUnfresh d → IsTrue (unfresh_condition c) → condition_size c < 4294967295 → Derives d c t
+    → IsValid d c

@@ -1,0 +1,60 @@
+//! The first children of a node, which prove facts in its own state.
+ghost use Rattle.std.specs.Prelude.{◌≡◌, IfOk};
+ghost use Rattle.bed_deriv.specs.Checks.{sequent};
+ghost use Rattle.bed_deriv.specs.Walk.{walk};
+ghost use Rattle.bed_check_pure.specs.Answers.{built_table};
+ghost use Rattle.bed_check_pure.specs.Faults.{AnswersWalk};
+ghost use Rattle.bed_check_heap.specs.Steps.{children_walked};
+
+use bed_check_pure::{Verdict, check_sequent};
+use bed_deriv::{Deriv, Sequent, SymState};
+use bed_lang::{Decls, Pure};
+use std::alloc::{AllocError, Global};
+
+fn sequent(alloc: Global, s: &SymState, goal: &Pure) -> Result<Sequent, AllocError>
+    ensures { IfOk result (λ q. q ≡ sequent s.now goal.now) }
+{
+    let state = s.copy(alloc)?;
+    let goal = goal.copy(alloc)?;
+    Ok(Sequent { state, goal })
+}
+
+fn child_walked(
+    alloc: Global,
+    decls: &Decls,
+    s: &SymState,
+    goal: &Pure,
+    child: &Deriv,
+    node: u32,
+) -> Result<u32, Verdict>
+    ensures { AnswersWalk result (walk (built_table decls.now) child.now (sequent s.now goal.now) node) }
+{
+    match sequent(alloc, s, goal) {
+        Err(_) => Err(Verdict::Memory),
+        Ok(q) => check_sequent(alloc, decls, &q, child, node),
+    }
+}
+
+/// Checks that the first children prove these goals in order, and gives the number after their last node.
+pub(crate) fn children_walked(
+    alloc: Global,
+    decls: &Decls,
+    s: &SymState,
+    children: &[Deriv],
+    goals: &[Pure],
+) -> Result<u32, Verdict>
+    ensures { AnswersWalk result (children_walked decls.now s.now children.now goals.now) }
+{
+    let mut at = 2;
+    let mut rest = goals;
+    for child in children {
+        match rest {
+            [] => return Ok(at),
+            [goal, more @ ..] => {
+                at = child_walked(alloc, decls, s, goal, child, at)?;
+                rest = more;
+            }
+        }
+    }
+    Ok(at)
+}
