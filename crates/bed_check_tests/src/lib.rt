@@ -1,0 +1,12 @@
+//! Tests of the checker: derivations, nodes and matches, each with the node and the premise that is
+//! refused.
+#![tactic(auto)]
+
+#[cfg(test)]
+mod derivations;
+#[cfg(test)]
+mod matches;
+#[cfg(test)]
+mod nodes;
+#[cfg(test)]
+mod trees;
