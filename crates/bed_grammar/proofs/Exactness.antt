@@ -34,7 +34,7 @@ module _ (G : Grammar) (T : Tables G) where
       lexemes = u.lexemes;
       value = u.value;
       viable = u.viable;
-      not_viable = λ p y r d m f h. u.not_viable p y [] r d k m (append-nil (tokens_of p) ∙ f) h;
+      passes = λ p y r d f h. u.passes p y [] r d k (append-nil (tokens_of p) ∙ f) h;
     }
 
     -- a part was read and something is left over
@@ -53,7 +53,7 @@ module _ (G : Grammar) (T : Tables G) where
       lexemes = All-nil G.IsLexeme;
       value = v;
       viable = subst (λ z. Derives G g z v) (sym (append-nil (unmarked u.front))) u.derived;
-      not_viable = λ p y r d m f h. leftover_error s v t rest u p y r d f h;
+      passes = λ p y r d f h. leftover_error s v t rest u p y r d f h;
     }
     exact_to_end s (Err e) u = rejects_error s e.0 e.1 u
 

@@ -1,18 +1,22 @@
 -- Exact reading of any language, a relation of marked texts and values.
-use Rattle.std.proofs.Common.{◌≡◌, List, Option, Some, None, Result, Ok, Err, refl, ap, sym, ◌∙◌, subst, inl, inr}
-use Rattle.bed_grammar.specs.Grammar.{Marked, unmarked}
-use Rattle.bed_grammar.specs.Exact.{Outcome, IsConsidered, FirstError, LongestPrefix, IsExactPrefix, IsExact, ReportsExactly, ReturnsUnless, ReportsOutcome}
-use Rattle.bed_grammar.proofs.Sets.{tokens_of-unmarked, unmarked-is}
+use Rattle.std.proofs.Common.{◌≡◌, List, [], ◌∷◌, Option, Some, None, Result, Ok, Err, refl, ap, sym, ◌∙◌, subst, inl, inr}
+use Rattle.bed_grammar.specs.Grammar.{Marked, unmarked, IsUnmarked}
+use Rattle.bed_grammar.specs.Exact.{Outcome, PassesAt, StandsAtToken, FirstError, LongestPrefix, IsExactPrefix, IsExact, ReportsExactly, ReturnsUnless, ReportsOutcome}
+use Rattle.bed_grammar.proofs.Sets.{tokens_of-unmarked, unmarked-is, unmarked_parts}
 
-pub considered : {S L : Type 0} (w : Option L) (s : List S) → IsConsidered w (unmarked {L = L} s)
-considered None s = tt
-considered (Some w) s = unmarked-is _ s
+-- a text within the limits passes none
+within : {S L : Type 0} (w : Option L) (front rest s : List S) → StandsAtToken w rest → PassesAt w front rest (unmarked {L = L} s) → ⊥
+within None front rest s a h = h
+within (Some w) front [] s a h = a
+within {S} {L} (Some w) front (t ∷ rest) s a (more, h) =
+    let k = unmarked_parts (unmarked front) ((t, Some w) ∷ more) (subst (λ (z : Marked S L). IsUnmarked z) h (unmarked-is L s)) in
+    let f : Some w ≡ None = k.1.0 in cc
 
 module _ {S L V : Type 0} (X : S → Type 0) (D : Marked S L → V → Type 0) where
   -- what has a value is read as it
   pub reads_text : (s : List S) (r : Result V (List S × Option L)) → IsExact X D s r → (y : V) → D (unmarked s) y → r ≡ Ok y
   reads_text s (Ok v) x y d = ap Ok (sym (x.1 (unmarked s) y d (tokens_of-unmarked L s)).1)
-  reads_text s (Err e) x y d = absurd (x.not_viable (unmarked s) y e.0 d (considered e.1 s) (tokens_of-unmarked L s ∙ x.split) refl)
+  reads_text s (Err e) x y d = absurd (within e.1 x.front e.0 s x.at_token (x.passes (unmarked s) y e.0 d (tokens_of-unmarked L s ∙ x.split) refl))
 
   -- a reader that reports the outcome of exact reading reports exactly
   pub reports_exactly : {E : Type 0} (memory : E) (error : List S → Option L → E) (s : List S) (r : Result V (List S × Option L)) (result : Result V E)
@@ -26,7 +30,7 @@ module _ {S L V : Type 0} (X : S → Type 0) (D : Marked S L → V → Type 0) w
       → ReportsExactly X D memory error s result → (v : V) → D (unmarked s) v → ReturnsUnless memory v result
   returns_text memory error s (Ok x) h v d = sym (h.1 (unmarked s) v d (tokens_of-unmarked L s)).1
   returns_text memory error s (Err e) (inl h) v d = h
-  returns_text memory error s (Err e) (inr (rest, w, f, u)) v d = absurd (u.not_viable (unmarked s) v rest d (considered w s) (tokens_of-unmarked L s ∙ u.split) refl)
+  returns_text memory error s (Err e) (inr (rest, w, f, u)) v d = absurd (within w u.front rest s u.at_token (u.passes (unmarked s) v rest d (tokens_of-unmarked L s ∙ u.split) refl))
 
   module _ (E : Marked S L → V → Type 0) (to : (p : Marked S L) (v : V) → D p v → E p v) (back : (p : Marked S L) (v : V) → E p v → D p v) where
     first_error_restated : (s rest : List S) (w : Option L) → FirstError X D s rest w → FirstError X E s rest w
@@ -38,7 +42,7 @@ module _ {S L V : Type 0} (X : S → Type 0) (D : Marked S L → V → Type 0) w
       lexemes = u.lexemes;
       value = u.value;
       viable = to _ u.value u.viable;
-      not_viable = λ p y r e m f h. u.not_viable p y r (back p y e) m f h;
+      passes = λ p y r e f h. u.passes p y r (back p y e) f h;
     }
 
     longest_prefix_restated : (s : List S) (v : V) (rest : List S) → LongestPrefix X D s v rest → LongestPrefix X E s v rest

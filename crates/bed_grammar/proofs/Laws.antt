@@ -1,12 +1,12 @@
 -- How reading a right side is made of reading its parts.
 use Rattle.std.proofs.Common.{◌≡◌, ℕ, true, false, ◌&&◌, not, nat_eq, List, [], ◌∷◌, ◌++◌, Option, Some, None, All, refl, ap, ap₂, sym, ◌∙◌, subst, append_assoc, inl, inr}
 use Rattle.std.proofs.lemmas.List.{append_cancel_left}
-use Rattle.bed_grammar.specs.Grammar.{Rhs, token, empty, seq, alt, ref, Value, Grammar, Marked, tokens_of, unmarked, IsUnmarked, Derives, shift, epsilon, sequence, left, right, expand}
-use Rattle.bed_grammar.specs.Exact.{peek, offending, IsConsidered}
+use Rattle.bed_grammar.specs.Grammar.{Rhs, token, empty, seq, alt, ref, Value, Grammar, Marked, tokens_of, unmarked, Derives, shift, epsilon, sequence, left, right, expand}
+use Rattle.bed_grammar.specs.Exact.{peek, offending, PassesAt}
 use Rattle.bed_grammar.specs.Tables.{has, disjoint, class_at, lookahead, Tables, nullable, first, follow_last, IsLl1}
 use Rattle.bed_grammar.specs.Parsing.{Accepts, Rejects}
 use Rattle.std.proofs.lemmas.List.Elements.{All-nil, All-append}
-use Rattle.bed_grammar.proofs.Sets.{and_parts, not_true, both_ways, eq_refl, tokens_of-append, unmarked-append, tokens_of-unmarked, unmarked_parts, peek_append, tokens_of-append_more}
+use Rattle.bed_grammar.proofs.Sets.{and_parts, not_true, both_ways, eq_refl, tokens_of-append, unmarked-append, tokens_of-unmarked, peek_append, tokens_of-append_more}
 use Rattle.bed_grammar.proofs.Examples.{Example}
 use Rattle.bed_grammar.proofs.Begins.{begins}
 use Rattle.bed_grammar.proofs.Derivations.{token_parts, empty_parts, seq_parts, alt_parts, ref_parts}
@@ -32,10 +32,14 @@ module _ (G : Grammar) (T : Tables G) where
   }
 
   -- a token that is there with a mark
-  token_marked : {A : Type 0} (c : ℕ) (w : G.Limit) (p : Marked G.Token G.Limit) (y : G.Token) → Derives G (token c (Some w)) p y → IsUnmarked p → A
-  token_marked c w p y d h =
-      let k : IsUnmarked ((y, Some w) ∷ []) = subst (λ z. IsUnmarked z) (token_parts G c (Some w) p y d).0 h in
-      let f : Some w ≡ None = k.0 in cc
+  token_passes : (c : ℕ) (w : G.Limit) (t : G.Token) (rest : List G.Token) (p : Marked G.Token G.Limit) (y : G.Token) (q r : List G.Token) → Derives G (token c (Some w)) p y → tokens_of p ++ q ≡ r → peek r ≡ Some t
+      → PassesAt (Some w) [] (t ∷ rest) p
+  token_passes c w t rest p y q r d f h =
+      let k : p ≡ (y, Some w) ∷ [] = (token_parts G c (Some w) p y d).0 in
+      let f' : y ∷ q ≡ r = subst (λ z. tokens_of z ++ q ≡ r) k f in
+      let g : Some y ≡ Some t = ap peek f' ∙ h in
+      let e : y ≡ t = cc in
+      ([], subst (λ z. p ≡ (z, Some w) ∷ []) e k)
 
   pub token_rejects_limit : (c : ℕ) (w : G.Limit) (t : G.Token) (rest : List G.Token) → G.class t ≡ c → Rejects G T (token c (Some w)) (t ∷ rest) (t ∷ rest) (Some w)
   token_rejects_limit c w t rest e = record {
@@ -46,7 +50,7 @@ module _ (G : Grammar) (T : Tables G) where
     lexemes = All-nil G.IsLexeme;
     value = t;
     viable = shift c (Some w) t e;
-    not_viable = λ p y q r d s g f h. token_marked c w p y d g;
+    passes = λ p y q r d s f h. token_passes c w t rest p y q r d f h;
   }
 
   token_other : {A : Type 0} (c : ℕ) (m : Option G.Limit) (s : List G.Token) → nat_eq (lookahead G s) c ≡ false → (p : Marked G.Token G.Limit) (y : G.Token) (q r : List G.Token) → Derives G (token c m) p y
@@ -67,7 +71,7 @@ module _ (G : Grammar) (T : Tables G) where
     lexemes = x.3;
     value = x.1;
     viable = x.2;
-    not_viable = λ p y q r d t g f h. token_other c m s n p y q r d f h;
+    passes = λ p y q r d t f h. token_other c m s n p y q r d f h;
   }
 
   token_past_end : {A : Type 0} (c : ℕ) (m : Option G.Limit) (p : Marked G.Token G.Limit) (y : G.Token) (q r : List G.Token) → Derives G (token c m) p y → tokens_of p ++ q ≡ r → peek r ≡ None → A
@@ -85,7 +89,7 @@ module _ (G : Grammar) (T : Tables G) where
     lexemes = x.3;
     value = x.1;
     viable = x.2;
-    not_viable = λ p y q r d t g f h. token_past_end c m p y q r d f h;
+    passes = λ p y q r d t f h. token_past_end c m p y q r d f h;
   }
 
   pub empty_accepts : (s : List G.Token) → Accepts G T empty s tt s
@@ -126,21 +130,23 @@ module _ (G : Grammar) (T : Tables G) where
       unique = seq_unique s x m y rest u w;
     }
 
-    guard_first : (w : Option G.Limit) (p p1 p2 : Marked G.Token G.Limit) → p ≡ p1 ++ p2 → IsConsidered w p → IsConsidered w p1
-    guard_first None p p1 p2 e g = tt
-    guard_first (Some w) p p1 p2 e g = (unmarked_parts p1 p2 (subst (λ z. IsUnmarked z) e g)).0
+    -- a limit that is passed in a part is passed in the whole
+    passes_first : (w : Option G.Limit) (front rest : List G.Token) (p p1 p2 : Marked G.Token G.Limit) → p ≡ p1 ++ p2 → PassesAt w front rest p1 → PassesAt w front rest p
+    passes_first None front rest p p1 p2 e h = h
+    passes_first (Some w) front rest p p1 p2 e (more, h) = ((more ++ p2), e ∙ ap (λ z. z ++ p2) h ∙ append_assoc (unmarked front) _ p2 ∙ ap (λ z. unmarked front ++ z) (append_assoc (offending (Some w) rest) more p2))
 
-    guard_second : (w : Option G.Limit) (p p1 p2 : Marked G.Token G.Limit) → p ≡ p1 ++ p2 → IsConsidered w p → IsConsidered w p2
-    guard_second None p p1 p2 e g = tt
-    guard_second (Some w) p p1 p2 e g = (unmarked_parts p1 p2 (subst (λ z. IsUnmarked z) e g)).1
+    passes_second : (w : Option G.Limit) (f1 front rest : List G.Token) (p p1 p2 : Marked G.Token G.Limit) → p ≡ p1 ++ p2 → p1 ≡ unmarked f1 → PassesAt w front rest p2 → PassesAt w (f1 ++ front) rest p
+    passes_second None f1 front rest p p1 p2 e k h = h
+    passes_second (Some w) f1 front rest p p1 p2 e k (more, h) =
+        (more, e ∙ ap₂ (λ i j. i ++ j) k h ∙ sym (append_assoc (unmarked f1) (unmarked front) _) ∙ ap (λ i. i ++ (offending (Some w) rest ++ more)) (sym (unmarked-append f1 front)))
 
-    first_not_viable : (s rest : List G.Token) (w : Option G.Limit) (u : Rejects G T a s rest w)
+    first_passes : (s rest : List G.Token) (w : Option G.Limit) (u : Rejects G T a s rest w)
         → (p : Marked G.Token G.Limit) (v : Value G.Token G.Tree (seq a b)) (q r : List G.Token) → Derives G (seq a b) p v → has (follow_last G T (seq a b)) (lookahead G q) ≡ false
-        → IsConsidered w p → tokens_of p ++ q ≡ u.front ++ r → peek r ≡ peek rest → ⊥
-    first_not_viable s rest w u p v q r d t g f h =
+        → tokens_of p ++ q ≡ u.front ++ r → peek r ≡ peek rest → PassesAt w u.front rest p
+    first_passes s rest w u p v q r d t f h =
         let (p1, p2, e, d1, d2) = seq_parts G a b p v d in
         let f1 : tokens_of p1 ++ (tokens_of p2 ++ q) ≡ u.front ++ r = sym (tokens_of-append_more p1 p2 q) ∙ ap (λ z. tokens_of z ++ q) (sym e) ∙ f in
-        u.not_viable p1 v.0 (tokens_of p2 ++ q) r d1 (stops_first G T a b p2 q l (begins G T c b p2 v.1 d2) t) (guard_first w p p1 p2 e g) f1 h
+        passes_first w u.front rest p p1 p2 e (u.passes p1 v.0 (tokens_of p2 ++ q) r d1 (stops_first G T a b p2 q l (begins G T c b p2 v.1 d2) t) f1 h)
 
     pub seq_rejects_first : Example G T b → (s rest : List G.Token) (w : Option G.Limit) → Rejects G T a s rest w → Rejects G T (seq a b) s rest w
     seq_rejects_first x s rest w u =
@@ -154,19 +160,19 @@ module _ (G : Grammar) (T : Tables G) where
           value = (u.value, y);
           viable = subst (λ z. Derives G (seq a b) z (u.value, y)) (append_assoc (unmarked u.front) _ p2 ∙ ap (λ z. unmarked u.front ++ z) (append_assoc (offending w rest) u.completion p2))
               (sequence a b (unmarked u.front ++ (offending w rest ++ u.completion)) p2 u.value y u.viable d2);
-          not_viable = first_not_viable s rest w u;
+          passes = first_passes s rest w u;
         }
 
-    second_not_viable : (s : List G.Token) (x : Value G.Token G.Tree a) (m rest : List G.Token) (w : Option G.Limit) (u : Accepts G T a s x m) (z : Rejects G T b m rest w)
+    second_passes : (s : List G.Token) (x : Value G.Token G.Tree a) (m rest : List G.Token) (w : Option G.Limit) (u : Accepts G T a s x m) (z : Rejects G T b m rest w)
         → (p : Marked G.Token G.Limit) (v : Value G.Token G.Tree (seq a b)) (q r : List G.Token) → Derives G (seq a b) p v → has (follow_last G T (seq a b)) (lookahead G q) ≡ false
-        → IsConsidered w p → tokens_of p ++ q ≡ (u.front ++ z.front) ++ r → peek r ≡ peek rest → ⊥
-    second_not_viable s x m rest w u z p v q r d t g f h =
+        → tokens_of p ++ q ≡ (u.front ++ z.front) ++ r → peek r ≡ peek rest → PassesAt w (u.front ++ z.front) rest p
+    second_passes s x m rest w u z p v q r d t f h =
         let (p1, p2, e, d1, d2) = seq_parts G a b p v d in
         let f1 : tokens_of p1 ++ (tokens_of p2 ++ q) ≡ u.front ++ (z.front ++ r) = regroup p p1 p2 q u.front z.front r e f in
         let h1 : peek (z.front ++ r) ≡ peek m = peek_append z.front r rest h ∙ sym (ap peek z.split) in
         let k1 : (p1 ≡ unmarked u.front) × (v.0 ≡ x) = u.unique p1 v.0 (tokens_of p2 ++ q) (z.front ++ r) d1 (stops_first G T a b p2 q l (begins G T c b p2 v.1 d2) t) f1 h1 in
         let f2 : tokens_of p2 ++ q ≡ z.front ++ r = second p1 p2 q u.front z.front (z.front ++ r) k1.0 f1 in
-        z.not_viable p2 v.1 q r d2 (stops_second G T a b q t) (guard_second w p p1 p2 e g) f2 h
+        passes_second w u.front z.front rest p p1 p2 e k1.0 (z.passes p2 v.1 q r d2 (stops_second G T a b q t) f2 h)
 
     pub seq_rejects_second : (s : List G.Token) (x : Value G.Token G.Tree a) (m rest : List G.Token) (w : Option G.Limit) → Accepts G T a s x m → Rejects G T b m rest w → Rejects G T (seq a b) s rest w
     seq_rejects_second s x m rest w u z = record {
@@ -178,7 +184,7 @@ module _ (G : Grammar) (T : Tables G) where
       value = (x, z.value);
       viable = subst (λ i. Derives G (seq a b) i (x, z.value)) (sym (append_assoc (unmarked u.front) (unmarked z.front) _) ∙ ap (λ i. i ++ (offending w rest ++ z.completion)) (sym (unmarked-append u.front z.front)))
           (sequence a b (unmarked u.front) (unmarked z.front ++ (offending w rest ++ z.completion)) x z.value u.derived z.viable);
-      not_viable = second_not_viable s x m rest w u z;
+      passes = second_passes s x m rest w u z;
     }
 
   -- ---- either
@@ -207,10 +213,10 @@ module _ (G : Grammar) (T : Tables G) where
         unique = left_unique x rest u;
       }
 
-      left_not_viable : (rest : List G.Token) (w : Option G.Limit) (u : Rejects G T a s rest w) (p : Marked G.Token G.Limit) (v : Value G.Token G.Tree (alt a b)) (q r : List G.Token) → Derives G (alt a b) p v → has (follow_last G T (alt a b)) (lookahead G q) ≡ false
-          → IsConsidered w p → tokens_of p ++ q ≡ u.front ++ r → peek r ≡ peek rest → ⊥
-      left_not_viable rest w u p (inl y) q r d t g f h = u.not_viable p y q r (alt_parts G a b p (inl y) d) (stops_left G T a b q t) g f h
-      left_not_viable rest w u p (inr y) q r d t g f h =
+      left_passes : (rest : List G.Token) (w : Option G.Limit) (u : Rejects G T a s rest w) (p : Marked G.Token G.Limit) (v : Value G.Token G.Tree (alt a b)) (q r : List G.Token) → Derives G (alt a b) p v → has (follow_last G T (alt a b)) (lookahead G q) ≡ false
+          → tokens_of p ++ q ≡ u.front ++ r → peek r ≡ peek rest → PassesAt w u.front rest p
+      left_passes rest w u p (inl y) q r d t f h = u.passes p y q r (alt_parts G a b p (inl y) d) (stops_left G T a b q t) f h
+      left_passes rest w u p (inr y) q r d t f h =
           not_second G T a b p q (lookahead G s) differ (begins G T c b p y (alt_parts G a b p (inr y) d)) t (same_look G T p s u.front rest q r u.split f h) k
 
       pub left_rejects : (rest : List G.Token) (w : Option G.Limit) → Rejects G T a s rest w → Rejects G T (alt a b) s rest w
@@ -222,7 +228,7 @@ module _ (G : Grammar) (T : Tables G) where
         lexemes = u.lexemes;
         value = inl u.value;
         viable = left a b _ u.value u.viable;
-        not_viable = left_not_viable rest w u;
+        passes = left_passes rest w u;
       }
 
     module _ (s : List G.Token) (k : has (first G T a) (lookahead G s) ≡ false) where
@@ -242,10 +248,10 @@ module _ (G : Grammar) (T : Tables G) where
         unique = right_unique x rest u;
       }
 
-      right_not_viable : (rest : List G.Token) (w : Option G.Limit) (u : Rejects G T b s rest w) (p : Marked G.Token G.Limit) (v : Value G.Token G.Tree (alt a b)) (q r : List G.Token) → Derives G (alt a b) p v → has (follow_last G T (alt a b)) (lookahead G q) ≡ false
-          → IsConsidered w p → tokens_of p ++ q ≡ u.front ++ r → peek r ≡ peek rest → ⊥
-      right_not_viable rest w u p (inr y) q r d t g f h = u.not_viable p y q r (alt_parts G a b p (inr y) d) (stops_right G T a b q t) g f h
-      right_not_viable rest w u p (inl y) q r d t g f h =
+      right_passes : (rest : List G.Token) (w : Option G.Limit) (u : Rejects G T b s rest w) (p : Marked G.Token G.Limit) (v : Value G.Token G.Tree (alt a b)) (q r : List G.Token) → Derives G (alt a b) p v → has (follow_last G T (alt a b)) (lookahead G q) ≡ false
+          → tokens_of p ++ q ≡ u.front ++ r → peek r ≡ peek rest → PassesAt w u.front rest p
+      right_passes rest w u p (inr y) q r d t f h = u.passes p y q r (alt_parts G a b p (inr y) d) (stops_right G T a b q t) f h
+      right_passes rest w u p (inl y) q r d t f h =
           not_first G T a p q (lookahead G s) lone (begins G T c a p y (alt_parts G a b p (inl y) d)) (same_look G T p s u.front rest q r u.split f h) k
 
       pub right_rejects : (rest : List G.Token) (w : Option G.Limit) → Rejects G T b s rest w → Rejects G T (alt a b) s rest w
@@ -257,7 +263,7 @@ module _ (G : Grammar) (T : Tables G) where
         lexemes = u.lexemes;
         value = inr u.value;
         viable = right a b _ u.value u.viable;
-        not_viable = right_not_viable rest w u;
+        passes = right_passes rest w u;
       }
 
   -- ---- another production
@@ -278,11 +284,11 @@ module _ (G : Grammar) (T : Tables G) where
       unique = ref_unique s v rest u;
     }
 
-    ref_not_viable : (s rest : List G.Token) (w : Option G.Limit) (u : Rejects G T (G.rule n) s rest w) (p : Marked G.Token G.Limit) (y : G.Tree n) (q r : List G.Token) → Derives G (ref n) p y → has (follow_last G T (ref n)) (lookahead G q) ≡ false
-        → IsConsidered w p → tokens_of p ++ q ≡ u.front ++ r → peek r ≡ peek rest → ⊥
-    ref_not_viable s rest w u p y q r d t g f h =
+    ref_passes : (s rest : List G.Token) (w : Option G.Limit) (u : Rejects G T (G.rule n) s rest w) (p : Marked G.Token G.Limit) (y : G.Tree n) (q r : List G.Token) → Derives G (ref n) p y → has (follow_last G T (ref n)) (lookahead G q) ≡ false
+        → tokens_of p ++ q ≡ u.front ++ r → peek r ≡ peek rest → PassesAt w u.front rest p
+    ref_passes s rest w u p y q r d t f h =
         let (v', e, d') = ref_parts G n p y d in
-        u.not_viable p v' q r d' (stops_ref G T c n q t) g f h
+        u.passes p v' q r d' (stops_ref G T c n q t) f h
 
     pub ref_rejects : (s rest : List G.Token) (w : Option G.Limit) → Rejects G T (G.rule n) s rest w → Rejects G T (ref n) s rest w
     ref_rejects s rest w u = record {
@@ -293,5 +299,5 @@ module _ (G : Grammar) (T : Tables G) where
       lexemes = u.lexemes;
       value = G.action n u.value;
       viable = expand n _ u.value u.viable;
-      not_viable = ref_not_viable s rest w u;
+      passes = ref_passes s rest w u;
     }

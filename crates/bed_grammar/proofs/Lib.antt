@@ -6,5 +6,6 @@ pub mod Parts
 pub mod Laws
 pub mod Parsing
 pub mod Languages
+pub mod Refusals
 pub mod Exactness
 pub mod Reading

@@ -1,6 +1,6 @@
 -- What reading a list of tokens promises, for any language: a relation D of marked texts and their values.
 use Rattle.std.specs.Prelude.{◌≡◌, List, [], ◌∷◌, ◌++◌, Option, Some, None, Result, Ok, Err, All, ◌⊎◌}
-use Rattle.bed_grammar.specs.Grammar.{Marked, tokens_of, unmarked, IsUnmarked}
+use Rattle.bed_grammar.specs.Grammar.{Marked, tokens_of, unmarked}
 
 -- The first token.
 abbrev pub peek : {S : Type 0} → List S → Option S
@@ -18,10 +18,11 @@ offending None rest = []
 offending (Some w) [] = []
 offending (Some w) (t ∷ ts) = (t, Some w) ∷ []
 
--- The texts that a refusal speaks of: where a limit is passed those within the limits, else all.
-abbrev pub IsConsidered : {S L : Type 0} → Option L → Marked S L → Type 0
-IsConsidered None p = Unit {0}
-IsConsidered (Some w) p = IsUnmarked p
+-- What is so of each text that goes on after front with the refused token: where that is refused for limit w, the text has
+-- it past that limit, and what stands before it within the limits; else there is no such text.
+abbrev pub PassesAt : {S L : Type 0} → Option L → List S → List S → Marked S L → Type 0
+PassesAt None front rest p = ⊥
+PassesAt {S} {L} (Some w) front rest p = (more : Marked S L) × (p ≡ unmarked front ++ (offending (Some w) rest ++ more))
 
 -- A limit is passed at a token, never at the end.
 abbrev pub StandsAtToken : {S L : Type 0} → Option L → List S → Type 0
@@ -40,8 +41,8 @@ module _ {S L V : Type 0} (IsLexeme : S → Type 0) (D : Marked S L → V → Ty
     pub lexemes : All IsLexeme (tokens_of completion)
     pub value : V
     pub viable : D (unmarked front ++ (offending w rest ++ completion)) value
-    -- no text goes on with the first token of rest, or ends where rest is empty
-    pub not_viable : (p : Marked S L) (y : V) (r : List S) → D p y → IsConsidered w p → tokens_of p ≡ front ++ r → peek r ≡ peek rest → ⊥
+    -- no text goes on with the first token of rest, or ends where rest is empty, but those that pass limit w there
+    pub passes : (p : Marked S L) (y : V) (r : List S) → D p y → tokens_of p ≡ front ++ r → peek r ≡ peek rest → PassesAt w front rest p
 
   -- The tokens of s before rest are a text within the limits, with this value and no other, and no text goes on with the
   -- first token of rest.

@@ -1,7 +1,7 @@
 -- What holds of every grammar that one token of foresight decides.
-use Rattle.std.specs.Prelude.{◌≡◌, List}
+use Rattle.std.specs.Prelude.{◌≡◌, List, Option}
 use Rattle.bed_grammar.specs.Grammar.{Grammar, ref, unmarked, Derives}
-use Rattle.bed_grammar.specs.Exact.{IsExactPrefix, IsExact, to_end}
+use Rattle.bed_grammar.specs.Exact.{FirstError, IsExactPrefix, IsExact, to_end}
 use Rattle.bed_grammar.specs.Tables.{Tables}
 use Rattle.bed_grammar.specs.Parsing.{parse, read_rhs, outcome_map}
 
@@ -20,3 +20,8 @@ IsExactOnWholes G T = (n : G.Nonterminal) (s : List G.Token) → IsExact G.IsLex
 -- No tokens are texts of a nonterminal with two values.
 abbrev pub IsUnambiguous : Grammar → Type 0
 IsUnambiguous G = (n : G.Nonterminal) (s : List G.Token) (x y : G.Tree n) → Derives G (ref n) (unmarked s) x → Derives G (ref n) (unmarked s) y → x ≡ y
+
+-- The first wrong token of a list is one, and so is the limit that it passes.
+abbrev pub HasOneRefusal : Grammar → Type 0
+HasOneRefusal G = (n : G.Nonterminal) (s rest other : List G.Token) (w z : Option G.Limit)
+    → FirstError G.IsLexeme (Derives G (ref n)) s rest w → FirstError G.IsLexeme (Derives G (ref n)) s other z → (rest ≡ other) × (w ≡ z)

@@ -2,7 +2,7 @@
 use Rattle.std.specs.Prelude.{◌≡◌, ℕ, ◌+◌, ◌*◌, length, zero, suc, Bool, true, false, nat_eq, List, [], ◌∷◌, ◌++◌, Option, Some, None, Ok, Err, All}
 use Rattle.std.proofs.Common.{inl, inr}
 use Rattle.bed_grammar.specs.Grammar.{Rhs, token, empty, seq, alt, ref, Value, Grammar, Marked, tokens_of, unmarked, Derives}
-use Rattle.bed_grammar.specs.Exact.{peek, Outcome, offending, IsConsidered, StandsAtToken}
+use Rattle.bed_grammar.specs.Exact.{peek, Outcome, offending, PassesAt, StandsAtToken}
 use Rattle.bed_grammar.specs.Tables.{has, lookahead, Tables, first, follow_last}
 
 -- The same outcome, with a function of the value.
@@ -66,8 +66,8 @@ module _ (G : Grammar) (T : Tables G) where
     pub lexemes : All G.IsLexeme (tokens_of completion)
     pub value : Value G.Token G.Tree g
     pub viable : Derives G g (unmarked front ++ (offending w rest ++ completion)) value
-    pub not_viable : (p : Marked G.Token G.Limit) (y : Value G.Token G.Tree g) (q r : List G.Token) → Derives G g p y → has (follow_last G T g) (lookahead G q) ≡ false
-        → IsConsidered w p → tokens_of p ++ q ≡ front ++ r → peek r ≡ peek rest → ⊥
+    pub passes : (p : Marked G.Token G.Limit) (y : Value G.Token G.Tree g) (q r : List G.Token) → Derives G g p y → has (follow_last G T g) (lookahead G q) ≡ false
+        → tokens_of p ++ q ≡ front ++ r → peek r ≡ peek rest → PassesAt w front rest p
 
   -- What an outcome of reading g says.
   abbrev pub IsParse : (g : Rhs G.Nonterminal G.Limit) → List G.Token → Outcome G.Token G.Limit (Value G.Token G.Tree g) → Type 0

@@ -11,7 +11,7 @@ mod ll1;
 mod refusal;
 mod tokens;
 
-pub use ll1::{Ll1, exact_prefix, exact_whole, step, unambiguous};
+pub use ll1::{Ll1, exact_prefix, exact_whole, one_refusal, step, unambiguous};
 pub use refusal::Refusal;
 pub use tokens::{Token, looks_at, looks_at_any, take};
 

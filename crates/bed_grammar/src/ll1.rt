@@ -2,7 +2,7 @@
 ghost use Rattle.std.specs.Prelude.{◌≡◌};
 ghost use Rattle.bed_grammar.specs.Grammar.{Grammar};
 ghost use Rattle.bed_grammar.specs.Tables.{Tables, IsLl1};
-ghost use Rattle.bed_grammar.specs.Laws.{IsExactOnPrefixes, IsExactOnWholes, ExpandsItsProduction, IsUnambiguous};
+ghost use Rattle.bed_grammar.specs.Laws.{IsExactOnPrefixes, IsExactOnWholes, ExpandsItsProduction, HasOneRefusal, IsUnambiguous};
 
 /// A grammar with its tables, which one token of foresight decides.
 pub trait Ll1 {
@@ -31,4 +31,9 @@ pub fn exact_whole<G: Ll1>()
 /// No tokens are texts of a nonterminal with two values.
 pub fn unambiguous<G: Ll1>()
     ensures { IsUnambiguous G.grammar }
+{}
+
+/// A list of tokens has one first wrong token, which passes one limit or none.
+pub fn one_refusal<G: Ll1>()
+    ensures { HasOneRefusal G.grammar }
 {}

@@ -1,5 +1,5 @@
 -- What holds of every text.
-use Rattle.std.specs.Prelude.{◌≡◌, ℕ, List, Err}
+use Rattle.std.specs.Prelude.{◌≡◌, ◌≢◌, ℕ, List, Err}
 use Rattle.bed_lang.specs.declared.module.Module as modules
 use Rattle.bed_read.specs.declared.whole.ReadError.{ReadError}
 use Rattle.bed_read.specs.declared.whole.ReadError.TheVariants.{Memory}
@@ -12,3 +12,7 @@ OneModule text = (m n : modules.Module) → IsModule text m → IsModule text n 
 -- a text of a module has no refusal
 abbrev pub IsNotRefused : List ℕ → Type 0
 IsNotRefused text = (m : modules.Module) (e : ReadError) → IsModule text m → ReadsModule text (Err e) → e ≡ Memory
+
+-- a text has one refusal at most
+abbrev pub OneRefusal : List ℕ → Type 0
+OneRefusal text = (e d : ReadError) → e ≢ Memory → d ≢ Memory → ReadsModule text (Err e) → ReadsModule text (Err d) → e ≡ d

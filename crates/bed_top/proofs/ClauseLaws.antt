@@ -25,7 +25,7 @@ use Rattle.bed_words.proofs.CommandLaws.{one_answer, one_command}
 use Rattle.bed_top.specs.Causes.{most_text, is_long, most_functions, function_count, unbuilt_file, unbuilt_word, broken_status, word_at, Asks, AreModules, Due, no_command, passes_limit, unbuilt_command, asks_link, Building, not_all_built, one_built, Scoping, not_scoped, all_scoped, Counting, too_many, few_enough, Reading, not_read, all_read, Measuring, too_long, all_short, read_status, name_status}
 use Rattle.bed_top.specs.Files.{HasRead, Leaves, LeavesBut, KeepsCalm}
 use Rattle.bed_top.specs.Lines.{Reports, given, short, failed, both}
-use Rattle.bed_top.specs.Promises.{Ran, contents, Links, Headline, NoFault, IsAlike, Exactly, Counted, Yields, Words, Faults}
+use Rattle.bed_top.specs.Promises.{Ran, contents, Links, Headline, NoFault, Exactly, Yields, Words, Faults}
 use Rattle.bed_top.specs.Returns.{module_is_built, broken_condition}
 use Rattle.bed_top.specs.Work.{base, IsDue, Caused}
 use Rattle.bed_top.proofs.DueLaws.{one_due, measured_whole}
@@ -323,14 +323,14 @@ module _ (words : List (List ℕ)) (old new : FilesState) (sink_old sink_new : S
   pub exact : Exactly words old new sink_old sink_new result
   exact told none job due d = by_answer answer
     where
-      alike : (s : Status) → s ≡ ran.due → IsDue words ran.job ran.texts old s → result ≡ ran.due → IsAlike due result ⊎ (result ≡ Memory)
-      alike s is h same = inl (subst (IsAlike due) (is ∙ sym same) (one_due words ran.job job ran.texts (contents old job) s due
+      is_due : (s : Status) → s ≡ ran.due → IsDue words ran.job ran.texts old s → result ≡ ran.due → (result ≡ due) ⊎ (result ≡ Memory)
+      is_due s is h same = inl (same ∙ sym is ∙ sym (one_due words ran.job job ran.texts (contents old job) s due
           (λ a b u m. subst (λ (j : Job). Measuring j (contents old j) u) (no_other words ran.job job a b) (whole_measuring ran.job ran.texts old told (h.read a) u m))
           h.due d))
 
       by_answer : (result ≡ ran.due) ⊎ ((result ≡ Memory) ⊎ ((result ≡ WriteFault true) × Rose sink_old.faults sink_new.faults))
-          → IsAlike due result ⊎ (result ≡ Memory)
-      by_answer (inl same) = due_of (IsAlike due result ⊎ (result ≡ Memory)) none (λ s is h. alike s is h same) (λ m. inr (same ∙ m))
+          → (result ≡ due) ⊎ (result ≡ Memory)
+      by_answer (inl same) = due_of ((result ≡ due) ⊎ (result ≡ Memory)) none (λ s is h. is_due s is h same) (λ m. inr (same ∙ m))
       by_answer (inr (inl m)) = inr m
       by_answer (inr (inr f)) = absurd (none.puts f.1)
 
@@ -366,56 +366,3 @@ module _ (words : List (List ℕ)) (old new : FilesState) (sink_old sink_new : S
       no_asks w p asks =
           let e : ◌≡◌ {A = Result Command CommandError} (Err (wrong.Limit w)) (Ok (command.Link ran.job)) =
           one_answer words (Err (wrong.Limit w)) (Ok (command.Link ran.job)) p (asks.stands, asks.within) in absurd (cc)
-
-  -- what the texts of a link that is asked for come to
-  measured_due : (P : Status → Type 0) → IsTrue old.tells → NoFault old new sink_old sink_new → (job : Job) → Asks words job
-      → ((s : Status) → Measuring job (contents old job) s → P s) → P result ⊎ (result ≡ Memory)
-  measured_due P told none job asks all = by_answer answer
-    where
-      no_asks : (w : Which) → PassesLimit words w → Asks words job → ⊥
-      no_asks w p other =
-          let e : ◌≡◌ {A = Result Command CommandError} (Err (wrong.Limit w)) (Ok (command.Link job)) =
-          one_answer words (Err (wrong.Limit w)) (Ok (command.Link job)) p (other.stands, other.within) in absurd (cc)
-
-      by_due : (s : Status) → IsDue words ran.job ran.texts old s → P s
-      by_due s h = by_words s h.due
-        where
-          by_words : (t : Status) → Due words ran.job ran.texts t → P t
-          by_words t (no_command k v) = absurd (v.none (command.Link job) asks.stands)
-          by_words t (passes_limit w v) = absurd (no_asks w v asks)
-          by_words t (unbuilt_command c what a l b) = absurd (built_not c what b (one_command words c (command.Link job) a asks.stands))
-            where
-              built_not : (c : Command) (what : List ℕ) → unbuilt_word words c ≡ Some what → c ≡ command.Link job → ⊥
-              built_not c what some same =
-                  let no : ◌≡◌ {A = Option (List ℕ)} (Some what) None = sym some ∙ ap (unbuilt_word words) same ∙ asks.built in absurd (cc)
-          by_words t (asks_link u a m) =
-              all t (subst (λ (j : Job). Measuring j (contents old j) t) (no_other words ran.job job a asks) (whole_measuring ran.job ran.texts old told (h.read a) t m))
-
-      by_answer : (result ≡ ran.due) ⊎ ((result ≡ Memory) ⊎ ((result ≡ WriteFault true) × Rose sink_old.faults sink_new.faults))
-          → P result ⊎ (result ≡ Memory)
-      by_answer (inl same) = due_of (P result ⊎ (result ≡ Memory)) none (λ s is h. inl (subst P (is ∙ sym same) (by_due s h))) (λ m. inr (same ∙ m))
-      by_answer (inr (inl m)) = inr m
-      by_answer (inr (inr f)) = absurd (none.puts f.1)
-
-  pub counted : Counted words old new sink_old sink_new result
-  counted = record {
-    text = λ told none job asks long. measured_due (λ s. s ≡ Limit which.Text) told none job asks (text_due job long);
-    functions = λ told none job ms asks small are more. measured_due (λ s. s ≡ Limit which.Functions) told none job asks (functions_due job ms small are more);
-  }
-    where
-      text_due : (job : Job) → list_any is_long (contents old job) ≡ true → (s : Status) → Measuring job (contents old job) s → s ≡ Limit which.Text
-      text_due job long s (too_long a) = refl
-      text_due job long s (all_short u small h) = let bad : true ≡ false = sym long ∙ small in absurd (cc)
-
-      functions_due : (job : Job) (ms : List Module) → list_any is_long (contents old job) ≡ false → AreModules (contents old job) ms
-          → most_functions < function_count ms → (s : Status) → Measuring job (contents old job) s → s ≡ Limit which.Functions
-      functions_due job ms small are more s (too_long a) = let bad : true ≡ false = sym a ∙ small in absurd (cc)
-      functions_due job ms small are more s (all_short u also h) = by_reading s h
-        where
-          by_counting : (ns : List Module) → ns ≡ ms → (s : Status) → Counting job (contents old job) ns s → s ≡ Limit which.Functions
-          by_counting ns same s (too_many a) = refl
-          by_counting ns same s (few_enough u few h) = absurd (omega (arith, few, more, ap function_count same))
-
-          by_reading : (s : Status) → Reading job (contents old job) s → s ≡ Limit which.Functions
-          by_reading s (not_read file text e a) = absurd (none_refused 0 (contents old job) ms file text e are a)
-          by_reading s (all_read ns u also h) = by_counting ns (one_list (contents old job) ns ms also are) s h

@@ -15,25 +15,9 @@ use Rattle.bed_words.specs.Usage.{Answers}
 use Rattle.bed_words.proofs.CommandLaws.{one_command, one_answer}
 use Rattle.bed_top.specs.Causes.{is_long, first_misnamed, unbuilt_file, unbuilt_word, broken_status, read_status, name_status, word_at, Asks, FirstRefused, Due, no_command, passes_limit, unbuilt_command, asks_link, Building, not_all_built, one_built, Scoping, not_scoped, all_scoped, Counting, too_many, few_enough, Reading, not_read, all_read, Measuring, too_long, all_short}
 use Rattle.bed_top.specs.Returns.{broken_condition}
-use Rattle.bed_top.specs.Promises.{IsUnread, IsUnreadAt, IsAlike}
 use Rattle.bed_top.proofs.TextLaws.{one_list, none_refused, one_refused}
 use Rattle.bed_top.specs.declared.status.Status.{Status}
 use Rattle.bed_top.specs.declared.status.Status.TheVariants.{Done, No, Usage, Syntax, Names, Limit, ReadFault, WriteFault, Memory, NotBuilt}
-
-same_alike : (s : Status) → IsAlike s s
-same_alike Done = refl
-same_alike (No condition rejected) = refl
-same_alike (Usage word) = refl
-same_alike (Syntax file line column kind) = refl
-same_alike (Names file line column kind) = refl
-same_alike (Limit which) = tt
-same_alike ReadFault = refl
-same_alike (WriteFault sink) = refl
-same_alike Memory = refl
-same_alike (NotBuilt what) = refl
-
-equal_alike : (s t : Status) → s ≡ t → IsAlike s t
-equal_alike s t same = subst (IsAlike s) same (same_alike s)
 
 none_some : {A : Type 0} (o : Option A) (x : A) → o ≡ None → o ≡ Some x → ⊥
 none_some {A} o x none some = let no : ◌≡◌ {A = Option A} None (Some x) = sym none ∙ some in absurd (cc)
@@ -63,54 +47,17 @@ one_counting job texts ms s t (too_many a) (few_enough u b h) = absurd (omega (a
 one_counting job texts ms s t (few_enough u a h) (too_many b) = absurd (omega (arith, a, b))
 one_counting job texts ms s t (few_enough u a h) (few_enough v b k) = one_scoping job texts ms s t h k
 
-refused_text : (k : ℕ) (texts : List (List ℕ)) (file : ℕ) (text : List ℕ) (e : ReadError) → FirstRefused k texts file text e → e ≡ error.Memory → ⊥
-refused_text k [] file text e h = absurd h
-refused_text k (t ∷ ts) file text e (inl h) = h.2
-refused_text k (t ∷ ts) file text e (inr h) = refused_text (k + 1) ts file text e h.2
-
-unread : (file : ℕ) (text : List ℕ) (e : ReadError) → (e ≡ error.Memory → ⊥) → IsUnreadAt file (read_status file text e)
-unread file text (error.BadByte at) other = refl
-unread file text (error.Unexpected at) other = refl
-unread file text (error.Number at) other = refl
-unread file text (error.Limit which at) other = tt
-unread file text error.Memory other = absurd (other refl)
-
-some_unread : (file : ℕ) (s : Status) → IsUnreadAt file s → IsUnread s
-some_unread file (Syntax other line column kind) a = tt
-some_unread file (Limit which) a = tt
-some_unread file Done a = absurd a
-some_unread file (No condition rejected) a = absurd a
-some_unread file (Usage word) a = absurd a
-some_unread file (Names other line column kind) a = absurd a
-some_unread file ReadFault a = absurd a
-some_unread file (WriteFault sink) a = absurd a
-some_unread file Memory a = absurd a
-some_unread file (NotBuilt what) a = absurd a
-
-alike_unread : (file : ℕ) (s t : Status) → IsUnreadAt file s → IsUnreadAt file t → IsAlike s t
-alike_unread file (Syntax other line column kind) t a b = subst (λ k. IsUnreadAt k t) (sym a) b
-alike_unread file (Limit which) t a b = some_unread file t b
-alike_unread file Done t a b = absurd a
-alike_unread file (No condition rejected) t a b = absurd a
-alike_unread file (Usage word) t a b = absurd a
-alike_unread file (Names other line column kind) t a b = absurd a
-alike_unread file ReadFault t a b = absurd a
-alike_unread file (WriteFault sink) t a b = absurd a
-alike_unread file Memory t a b = absurd a
-alike_unread file (NotBuilt what) t a b = absurd a
-
-one_reading : (job : Job) (texts : List (List ℕ)) (s t : Status) → Reading job texts s → Reading job texts t → IsAlike s t
+one_reading : (job : Job) (texts : List (List ℕ)) (s t : Status) → Reading job texts s → Reading job texts t → s ≡ t
 one_reading job texts s t (not_read file text e a) (not_read other words f b) =
-    alike_unread file (read_status file text e) (read_status other words f) (unread file text e (refused_text 0 texts file text e a))
-    (subst (λ k. IsUnreadAt k (read_status other words f)) (sym (one_refused 0 texts file other text words e f a b))
-    (unread other words f (refused_text 0 texts other words f b)))
+    let one = one_refused 0 texts file other text words e f a b in
+    ap (λ (k : ℕ). read_status k text e) one.0 ∙ ap (λ (w : List ℕ). read_status other w e) one.1 ∙ ap (read_status other words) one.2
 one_reading job texts s t (not_read file text e a) (all_read ms u are h) = absurd (none_refused 0 texts ms file text e are a)
 one_reading job texts s t (all_read ms u are h) (not_read file text e b) = absurd (none_refused 0 texts ms file text e are b)
 one_reading job texts s t (all_read ms u are h) (all_read ns v also k) =
-    equal_alike s t (one_counting job texts ms s t h (subst (λ xs. Counting job texts xs t) (one_list texts ns ms also are) k))
+    one_counting job texts ms s t h (subst (λ xs. Counting job texts xs t) (one_list texts ns ms also are) k)
 
-one_measuring : (job : Job) (texts : List (List ℕ)) (s t : Status) → Measuring job texts s → Measuring job texts t → IsAlike s t
-one_measuring job texts s t (too_long a) (too_long b) = tt
+one_measuring : (job : Job) (texts : List (List ℕ)) (s t : Status) → Measuring job texts s → Measuring job texts t → s ≡ t
+one_measuring job texts s t (too_long a) (too_long b) = refl
 one_measuring job texts s t (too_long a) (all_short u b h) = let no : true ≡ false = sym a ∙ b in absurd (cc)
 one_measuring job texts s t (all_short u a h) (too_long b) = let no : true ≡ false = sym b ∙ a in absurd (cc)
 one_measuring job texts s t (all_short u a h) (all_short v b k) = one_reading job texts s t h k
@@ -122,21 +69,19 @@ measured_whole job texts others long short s (too_long a) = too_long (sym long �
 measured_whole job texts others long short s (all_short u a h) =
     let b : list_any is_long others ≡ false = sym long ∙ a in all_short u b (subst (λ ts. Reading job ts u) (short b) h)
 
--- the answer of bed_words that a due status stands for
-abbrev WordsAnswer : List (List ℕ) → Job → List (List ℕ) → Status → Type 0
-WordsAnswer words job texts s = (a : Result Command CommandError) × Answers words a
-
 pub one_due : (words : List (List ℕ)) (job other : Job) (texts others : List (List ℕ)) (s t : Status)
     → (Asks words job → Asks words other → (u : Status) → Measuring job texts u → Measuring other others u)
-    → Due words job texts s → Due words other others t → IsAlike t s
+    → Due words job texts s → Due words other others t → t ≡ s
 one_due words job other texts others s t same (no_command i a) (no_command k b) =
     let e : ◌≡◌ {A = Result Command CommandError} (Err (wrong.Usage k)) (Err (wrong.Usage i)) = one_answer words (Err (wrong.Usage k)) (Err (wrong.Usage i)) b a in
-    let is : k ≡ i = cc in ap Usage (sym is)
+    let is : k ≡ i = cc in ap Usage is
 one_due words job other texts others s t same (no_command i a) (passes_limit w b) = absurd (a.none b.0 b.1.0)
 one_due words job other texts others s t same (no_command i a) (unbuilt_command c what b l u) = absurd (a.none c b)
 one_due words job other texts others s t same (no_command i a) (asks_link v b h) = absurd (a.none (command.Link other) b.stands)
 one_due words job other texts others s t same (passes_limit w a) (no_command k b) = absurd (b.none a.0 a.1.0)
-one_due words job other texts others s t same (passes_limit w a) (passes_limit x b) = tt
+one_due words job other texts others s t same (passes_limit w a) (passes_limit x b) =
+    let e : ◌≡◌ {A = Result Command CommandError} (Err (wrong.Limit x)) (Err (wrong.Limit w)) = one_answer words (Err (wrong.Limit x)) (Err (wrong.Limit w)) b a in
+    let is : x ≡ w = cc in ap Limit is
 one_due words job other texts others s t same (passes_limit w a) (unbuilt_command c what b l u) =
     let e : ◌≡◌ {A = Result Command CommandError} (Err (wrong.Limit w)) (Ok c) = one_answer words (Err (wrong.Limit w)) (Ok c) a (b, l) in absurd (cc)
 one_due words job other texts others s t same (passes_limit w a) (asks_link v b h) =
@@ -147,7 +92,7 @@ one_due words job other texts others s t same (unbuilt_command c what a l u) (pa
     let e : ◌≡◌ {A = Result Command CommandError} (Err (wrong.Limit w)) (Ok c) = one_answer words (Err (wrong.Limit w)) (Ok c) b (a, l) in absurd (cc)
 one_due words job other texts others s t same (unbuilt_command c what a l u) (unbuilt_command d that b k v) =
     let is : unbuilt_word words c ≡ Some that = ap (unbuilt_word words) (one_command words c d a b) ∙ v in
-    ap NotBuilt (one_some (unbuilt_word words c) what that u is)
+    ap NotBuilt (sym (one_some (unbuilt_word words c) what that u is))
 one_due words job other texts others s t same (unbuilt_command c what a l u) (asks_link v b h) =
     absurd (none_some (unbuilt_word words c) what (ap (unbuilt_word words) (one_command words c (command.Link other) a b.stands) ∙ b.built) u)
 one_due words job other texts others s t same (asks_link v a h) (no_command k b) = absurd (b.none (command.Link job) a.stands)

@@ -32,6 +32,7 @@ use Rattle.bed_sat.specs.Linking.{imports_at, linked}
 use Rattle.bed_sat.specs.Runs.{Outside}
 use Rattle.bed_sat.specs.Sound.{ImportAt, IsOutsideOf, IsSound}
 use Rattle.bed_sat.proofs.LinkingLaws.{return_module_sound, return_module_short}
+use Rattle.bed_sat.proofs.FrameLaws.{bytes_eq_is}
 use Rattle.bed_top.specs.Returns.{only, has_name, all_differ, is_empty, is_emp, is_empty_memory, is_answer, answer_of, promised_word, is_value_layer, is_value, signature_is_built, returned_of, returned_operand, is_number_or_local, function_is_built, module_is_built, says_same_layer, says_same, says_both, keeps_promise, first_broken, broken_condition}
 use Rattle.bed_lang.specs.declared.condition.Decls.{Decls}
 use Rattle.bed_lang.specs.Lookups.{first_signature}
@@ -54,9 +55,6 @@ and_second : (a b : Bool) → (a && b) ≡ true → b ≡ true
 and_second true b h = h
 and_second false b h = absurd (cc)
 
-same_bytes : (a b : List ℕ) → bytes_eq a b ≡ true → a ≡ b
-same_bytes a b h = (bytes_eq-Decides a b).0 h
-
 equal_bytes : (a b : List ℕ) → a ≡ b → bytes_eq a b ≡ true
 equal_bytes a b e = (bytes_eq-Decides a b).1 e
 
@@ -68,7 +66,7 @@ located (n ∷ ns) x h = by_test (bytes_eq n.bytes x.bytes) refl (λ t. located 
     by_test : (b : Bool) → bytes_eq n.bytes x.bytes ≡ b
         → (bytes_eq n.bytes x.bytes ≡ false → (y : Name) × (slice_get ns (number_of ns x.bytes) ≡ Some y) × (y.bytes ≡ x.bytes))
         → (y : Name) × (slice_get (n ∷ ns) (number_of (n ∷ ns) x.bytes) ≡ Some y) × (y.bytes ≡ x.bytes)
-    by_test true t later = (n, rw t refl, same_bytes n.bytes x.bytes t)
+    by_test true t later = (n, rw t refl, bytes_eq_is n.bytes x.bytes t)
     by_test false t later = let there = later t in (there.0, rw (t, suc_number (number_of ns x.bytes)) there.1, there.2)
       where
         suc_number : (i : ℕ) → 1 + i ≡ suc i
@@ -92,7 +90,7 @@ alone (n ∷ ns) x y (suc j) d at e = by_test (bytes_eq n.bytes x.bytes) refl (a
   where
     by_test : (b : Bool) → bytes_eq n.bytes x.bytes ≡ b → j ≡ number_of ns x.bytes → suc j ≡ number_of (n ∷ ns) x.bytes
     by_test true t later =
-        let again : has_name ns n ≡ true = there ns n y j at (e ∙ sym (same_bytes n.bytes x.bytes t)) in
+        let again : has_name ns n ≡ true = there ns n y j at (e ∙ sym (bytes_eq_is n.bytes x.bytes t)) in
         let none : not (has_name ns n) ≡ true = and_first (not (has_name ns n)) (all_differ ns) d in
         absurd (not_both (has_name ns n) again none)
       where
@@ -176,7 +174,7 @@ agrees params w a d is says = by_layer (out-Word w) a (sym (rolled_word w)) is s
         let at = located params x is in (
           OfArgument (number_of params x.bytes),
           (x, e ∙ rolls-Var (var.Named x), record { parameter = at.0; at = at.1; named = at.2; alone = λ j z here eq. alone params x z j d here eq }),
-          (y, refl, ap (number_of params) (sym (same_bytes x.bytes y.bytes says))),
+          (y, refl, ap (number_of params) (sym (bytes_eq_is x.bytes y.bytes says))),
         )
     by_layer (Word-F.Number m) (operand.Local y) e is says = absurd (cc)
     by_layer (Word-F.Number m) (operand.Label y) e is says = absurd (cc)

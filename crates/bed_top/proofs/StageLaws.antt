@@ -64,14 +64,6 @@ pub unbuilt_words : (words : List (List ℕ)) (c : Command) (what : List ℕ) �
 unbuilt_words words c what stands within is = or_memory_to (λ s. s ≡ NotBuilt what) (IsRefused words) tt
     (λ s same. subst (IsRefused words) (sym same) (c, stands, within, is))
 
-pub asks_for : (words : List (List ℕ)) (c : Command) (job : Job) → IsCommand words c → limit_of c ≡ None → unbuilt_word words c ≡ None → c ≡ command.Link job
-    → Asks words job
-asks_for words c job stands within built is = record {
-  stands = subst (IsCommand words) is stands;
-  within = subst (λ (d : Command). limit_of d ≡ None) is within;
-  built = subst (λ (d : Command). unbuilt_word words d ≡ None) is built;
-}
-
 -- a list from its first element on, as a pattern splits it
 pub split_first : {A : Type 0} (xs : List A) (x : A) → 1 ≤ length xs → x ≡ get_or xs 0 x → x ∷ take (length xs - 1) (drop 1 xs) ≡ xs
 split_first [] x some is = absurd (omega (arith, some))

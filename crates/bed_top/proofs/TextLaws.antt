@@ -5,7 +5,7 @@ use Rattle.std.proofs.lemmas.Bool.Decides.{nat_tests}
 use Rattle.bed_io.specs.Files.{up_to}
 use Rattle.bed_lang.specs.declared.module.Module.{Module}
 use Rattle.bed_read.specs.declared.whole.ReadError.{ReadError}
-use Rattle.bed_read.proofs.TextLaws.{one_module, not_refused}
+use Rattle.bed_read.proofs.TextLaws.{one_module, not_refused, one_refusal}
 use Rattle.bed_top.specs.Causes.{most_text, is_long, AreModules, FirstRefused}
 
 pub one_list : (texts : List (List ℕ)) (ms ns : List Module) → AreModules texts ms → AreModules texts ns → ms ≡ ns
@@ -23,11 +23,11 @@ none_refused k (t ∷ ts) [] file text e are h = absurd are
 none_refused k (t ∷ ts) (m ∷ ms) file text e are (inl h) = h.2 (not_refused t m e are.0 h.3)
 none_refused k (t ∷ ts) (m ∷ ms) file text e are (inr h) = none_refused (k + 1) ts ms file text e are.1 h.2
 
--- one text is the first that is no module
+-- one text is the first that is no module, with one refusal
 pub one_refused : (k : ℕ) (texts : List (List ℕ)) (file other : ℕ) (text words : List ℕ) (e f : ReadError) → FirstRefused k texts file text e
-    → FirstRefused k texts other words f → file ≡ other
+    → FirstRefused k texts other words f → (file ≡ other) × (text ≡ words) × (e ≡ f)
 one_refused k [] file other text words e f a b = absurd a
-one_refused k (t ∷ ts) file other text words e f (inl a) (inl b) = a.0 ∙ sym b.0
+one_refused k (t ∷ ts) file other text words e f (inl a) (inl b) = (a.0 ∙ sym b.0, a.1 ∙ sym b.1, one_refusal t e f a.2 b.2 a.3 b.3)
 one_refused k (t ∷ ts) file other text words e f (inl a) (inr b) = absurd (a.2 (not_refused t b.0 e b.1 a.3))
 one_refused k (t ∷ ts) file other text words e f (inr a) (inl b) = absurd (b.2 (not_refused t a.0 f a.1 b.3))
 one_refused k (t ∷ ts) file other text words e f (inr a) (inr b) = one_refused (k + 1) ts file other text words e f a.2 b.2

@@ -1,8 +1,6 @@
 -- What the top call promises: the whole of a run, and what is read off it.
-use Rattle.std.specs.Prelude.{◌≡◌, ◌⊎◌, ℕ, ◌<◌, IsTrue, true, false, List, [], map, Some}
-use Rattle.std.specs.List.{list_any}
+use Rattle.std.specs.Prelude.{◌≡◌, ◌⊎◌, ℕ, true, false, IsTrue, List, [], map, Some}
 use Rattle.bed_lang.specs.declared.limit.Which.{Which}
-use Rattle.bed_lang.specs.declared.limit.Which.TheVariants as which
 use Rattle.bed_lang.specs.declared.module.Module.{Module}
 use Rattle.bed_table.specs.Image.{image}
 use Rattle.bed_io.specs.Counts.{Rose}
@@ -14,12 +12,12 @@ use Rattle.bed_sat.specs.Runs.{Outside}
 use Rattle.bed_sat.specs.Sound.{IsOutsideOf, IsSound}
 use Rattle.bed_words.specs.declared.command.Job.{Job}
 use Rattle.bed_words.specs.Usage.{IsUsage, PassesLimit}
-use Rattle.bed_top.specs.Causes.{is_long, most_functions, function_count, Asks, AreModules, Due}
+use Rattle.bed_top.specs.Causes.{Asks, AreModules, Due}
 use Rattle.bed_top.specs.Files.{out_file}
 use Rattle.bed_top.specs.Lines.{Reports, SinkGoesOn}
 use Rattle.bed_top.specs.Work.{base, Worked}
 use Rattle.bed_top.specs.declared.status.Status.{Status}
-use Rattle.bed_top.specs.declared.status.Status.TheVariants.{Done, Usage, Syntax, Limit, ReadFault, WriteFault, Memory}
+use Rattle.bed_top.specs.declared.status.Status.TheVariants.{Done, Usage, Limit, ReadFault, WriteFault, Memory}
 
 -- one run: what was read, the status of the work with its cause, and what was put
 pub record Ran (words : List (List ℕ)) (old new : FilesState) (sink_old sink_new : SinkState) (result : Status) : Type 0 where
@@ -57,40 +55,12 @@ pub record NoFault (old new : FilesState) (sink_old sink_new : SinkState) : Type
   pub writes : Rose old.write_faults new.write_faults → ⊥
   pub puts : Rose sink_old.faults sink_new.faults → ⊥
 
--- a text is refused by the reader, or a limit is passed
-abbrev pub IsUnread : Status → Type 0
-IsUnread (Syntax file line column kind) = Unit {0}
-IsUnread (Limit which) = Unit {0}
-IsUnread _ = ⊥
-
--- this file's text is refused by the reader, or a limit is passed
-abbrev pub IsUnreadAt : ℕ → Status → Type 0
-IsUnreadAt file (Syntax other line column kind) = other ≡ file
-IsUnreadAt file (Limit which) = Unit {0}
-IsUnreadAt file _ = ⊥
-
--- The same answer. Where the reader refuses a file's text, a refusal of that text or a limit; where a limit is passed, a limit or
--- a refusal. Which one it is `Ran` says.
-abbrev pub IsAlike : Status → Status → Type 0
-IsAlike (Syntax file line column kind) s = IsUnreadAt file s
-IsAlike (Limit which) s = IsUnread s
-IsAlike due s = s ≡ due
-
 -- Where the files tell their contents and no count of faults rises, the answer is the one that is due by the words and the
 -- contents of the module files, or want of memory.
 abbrev pub Exactly : List (List ℕ) → FilesState → FilesState → SinkState → SinkState → Status → Type 0
 Exactly words old new sink_old sink_new result =
     IsTrue old.tells → NoFault old new sink_old sink_new → (job : Job) → (due : Status) → Due words job (contents old job) due
-    → IsAlike due result ⊎ (result ≡ Memory)
-
--- Where the files tell their contents and no count of faults rises: a text that is too long, and modules of too many functions,
--- give their limits.
-pub record Counted (words : List (List ℕ)) (old new : FilesState) (sink_old sink_new : SinkState) (result : Status) : Type 0 where
-  pub text : IsTrue old.tells → NoFault old new sink_old sink_new → (job : Job) → Asks words job
-      → list_any is_long (contents old job) ≡ true → (result ≡ Limit which.Text) ⊎ (result ≡ Memory)
-  pub functions : IsTrue old.tells → NoFault old new sink_old sink_new → (job : Job) (ms : List Module) → Asks words job
-      → list_any is_long (contents old job) ≡ false → AreModules (contents old job) ms → most_functions < function_count ms
-      → (result ≡ Limit which.Functions) ⊎ (result ≡ Memory)
+    → (result ≡ due) ⊎ (result ≡ Memory)
 
 -- the due status, but for want of memory and a fault of the sink
 abbrev pub Yields : Status → Status → Type 0

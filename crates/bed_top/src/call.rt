@@ -4,7 +4,7 @@ ghost use Rattle.bed_words.specs.declared.command.Job.{Job};
 ghost use Rattle.bed_top.specs.Lines.{Reports, SinkGoesOn};
 ghost use Rattle.bed_top.specs.Outcomes.{texts_of, Counts, JobDone};
 ghost use Rattle.bed_top.specs.Files.{KeepsCalm, Leaves};
-ghost use Rattle.bed_top.specs.Promises.{Counted, Exactly, Faults, Headline, Ran, Words};
+ghost use Rattle.bed_top.specs.Promises.{Exactly, Faults, Headline, Ran, Words};
 
 use crate::asked::asked;
 use crate::build::{Outcome, build, refused};
@@ -102,7 +102,6 @@ pub fn top<F: Files, K: Sink>(
     ensures ran { Ran (map string_bytes words.now) (F.seen files.old) (F.seen files.new) (K.seen out.old) (K.seen out.new) result }
     ensures headline { Headline (map string_bytes words.now) (F.seen files.old) (F.seen files.new) result }
     ensures exact { Exactly (map string_bytes words.now) (F.seen files.old) (F.seen files.new) (K.seen out.old) (K.seen out.new) result }
-    ensures counted { Counted (map string_bytes words.now) (F.seen files.old) (F.seen files.new) (K.seen out.old) (K.seen out.new) result }
     ensures words { Words (map string_bytes words.now) result }
     ensures faults { Faults (F.seen files.old) (F.seen files.new) (K.seen out.old) (K.seen out.new) result }
     ensures leaves { Leaves (map string_bytes words.now) (F.seen files.old) (F.seen files.new) result }

@@ -1,4 +1,4 @@
-use Rattle.bed_top.proofs.ClauseLaws.{headline, exact, counted, words_answer, faults, leaves, calm}
+use Rattle.bed_top.proofs.ClauseLaws.{headline, exact, words_answer, faults, leaves, calm}
 use Rattle.bed_top.proofs.call.top.Goals as goal
 
 pub returns-clause-headline : goal.returns-clause-headline
@@ -15,9 +15,6 @@ returns-clause-faults g c = faults _ _ _ _ _ c.run.result c.run.ensures
 
 pub returns-clause-leaves : goal.returns-clause-leaves
 returns-clause-leaves g c = leaves _ _ _ _ _ c.run.result c.run.ensures
-
-pub returns-clause-counted : goal.returns-clause-counted
-returns-clause-counted g c = counted _ _ _ _ _ c.run.result c.run.ensures
 
 pub returns-clause-calm : goal.returns-clause-calm
 returns-clause-calm g c = calm _ _ _ _ _ c.run.result c.run.ensures
