@@ -7,7 +7,7 @@ use bed_table::{code_length, image, size_laws};
 use std::alloc::{AllocError, Global};
 use std::test::Fail;
 
-fn name(alloc: Global, text: &[u8]) -> Result<Name, AllocError> {
+pub(crate) fn name(alloc: Global, text: &[u8]) -> Result<Name, AllocError> {
     Ok(Name {
         bytes: List::from_slice(alloc, text)?,
         at: 0,

@@ -1,11 +1,12 @@
 //! Images of whole texts. Their bytes were made by another program, from the rows of the table alone.
-use crate::tests::built;
+use crate::tests::{built, name};
+use bed_lang::Name;
 use bed_read::read_module;
 use std::alloc::{AllocError, Global};
 use std::test::Fail;
 
 /// Texts with the hexadecimal digits of their images at base 0x00400000.
-const IMAGES: [(&[u8], &[u8]); 8] = [
+const IMAGES: [(&[u8], &[u8]); 10] = [
     // the larger of two numbers
     (
         b"module m; signature M(a, b) pre emp post emp; export function max: M { if a < b { \
@@ -84,7 +85,38 @@ const IMAGES: [(&[u8], &[u8]); 8] = [
           0F83100000008B8D040000008BC18BB500000000FFE6E997FFFFFF8B8D040000008BC18BB500000000FF\
           E6",
     ),
+    // a call of a name, with two arguments
+    (
+        b"module m; signature D(a, b) pre emp post emp; signature G(n) reserving 5 pre emp \
+          post emp; export function go: G locals y, x { x <- call &f(n, 7) after emp; return \
+          x; } function f: D { a <- a - b; return a; }",
+        b"42494D31000040007500000002000000010000400002676F004B004000016689B5000000008B8D040000\
+          00898D14000000B907000000898D18000000BA4B00400081C510000000BE2F004000FFE281ED10000000\
+          89850C0000008B8D0C0000008BC18BB500000000FFE689B5000000008B8D040000008B95080000002BCA\
+          898D040000008B8D040000008BC18BB500000000FFE6",
+    ),
+    // a list that is added up
+    (
+        b"module m; signature Sum(p) reserving 3 for s: seq pre lst(p, s) post lst(p, s); \
+          export function sum: Sum locals r, n, v { r <- 0; walk n, v in p of s as u, t keep \
+          emp { r <- r + v; } return r; }",
+        b"42494D3100004000890000000200000001000040000373756D021D0040000973756D2E6C6F6F703189B5\
+          00000000B900000000898D080000008B8D04000000898D0C0000008B8D0C000000BA000000003BCA0F84\
+          490000008B8D0C0000008B8900000000898D100000008B8D080000008B951000000003CA898D08000000\
+          8B8D0C0000008B8904000000898D100000008B8D10000000898D0C000000E9A4FFFFFF8B8D080000008B\
+          C18BB500000000FFE6",
+    ),
 ];
+
+/// A text that calls an import, with its image where the import stands at 0x1000.
+const IMPORTING: (&[u8], &[u8]) = (
+    b"module m; signature P(v) pre emp post emp; signature G() reserving 3 pre emp post \
+      emp; import say: P; export function go: G locals x { x <- call &say(5) after emp; \
+      return 0; }",
+    b"42494D31000040003E00000002000000010000400002676F03001000000373617989B500000000B90500\
+      0000898D0C000000BA0010000081C508000000BE23004000FFE281ED08000000898504000000B9000000\
+      008BC18BB500000000FFE6",
+);
 
 fn digit(n: u8) -> u8 {
     if n < 10 {
@@ -104,19 +136,24 @@ fn digits(alloc: Global, bytes: &[u8]) -> Result<Vec<u8>, AllocError> {
 }
 
 // The digits of the image of a text.
-fn image_digits(alloc: Global, text: &[u8]) -> Result<Vec<u8>, Fail> {
+fn image_digits(alloc: Global, text: &[u8], imports: &[(Name, u32)]) -> Result<Vec<u8>, Fail> {
     if text.len() > 1000 {
         return Err(Fail::from("a text is too long"));
     }
     let Ok(module) = read_module(alloc, text) else {
         return Err(Fail::from("a text isn't read"));
     };
-    let image = built(alloc, &[module], &[])?;
+    let image = built(alloc, &[module], imports)?;
     Ok(digits(alloc, image.as_slice())?)
 }
 
-fn has_image(alloc: Global, text: &[u8], wanted: &[u8]) -> Result<bool, Fail> {
-    let got = image_digits(alloc, text)?;
+fn has_image(
+    alloc: Global,
+    text: &[u8],
+    imports: &[(Name, u32)],
+    wanted: &[u8],
+) -> Result<bool, Fail> {
+    let got = image_digits(alloc, text, imports)?;
     Ok(got.as_slice() == wanted)
 }
 
@@ -124,7 +161,16 @@ fn has_image(alloc: Global, text: &[u8], wanted: &[u8]) -> Result<bool, Fail> {
 fn texts_have_their_images(rt: HostRuntime) -> Result<(), Fail> {
     let alloc = rt.alloc();
     for (text, wanted) in &IMAGES {
-        assert!(rt; has_image(alloc, *text, *wanted)?);
+        assert!(rt; has_image(alloc, *text, &[], *wanted)?);
     }
+    Ok(())
+}
+
+#[test]
+fn an_import_is_called_at_its_address(rt: HostRuntime) -> Result<(), Fail> {
+    let alloc = rt.alloc();
+    let imports = [(name(alloc, b"say")?, 0x1000)];
+    let (text, wanted) = &IMPORTING;
+    assert!(rt; has_image(alloc, *text, &imports, *wanted)?);
     Ok(())
 }
