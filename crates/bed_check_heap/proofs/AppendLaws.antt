@@ -20,14 +20,13 @@ use Rattle.bed_lang.specs.Prelude.{lseg}
 use Rattle.bed_lang.proofs.ValueLaws.{value-small, list_value-Var, list_value-App}
 use Rattle.bed_lang.specs.Lookups.{predicate_named}
 use Rattle.bed_sat.specs.Assertions.{Meaning, IsTrueAtom, World, meaning}
-use Rattle.bed_sat.proofs.FrameLaws.{bytes_eq_is}
+use Rattle.bed_sat.proofs.FrameLaws.{bytes_eq_is, some_same}
 use Rattle.bed_sat.proofs.InstanceLaws.{list_value-with}
 use Rattle.bed_deriv.specs.declared.derivation.DArg.{DArg}
 use Rattle.bed_deriv.specs.declared.state.SymState.{SymState}
 use Rattle.bed_deriv.specs.HeapRules.{both_taken, Segment, segment_args, segment, is_lseg, has_segments, joined_segment, append_rule}
 use Rattle.bed_check_pure.specs.States.{AreTrueFacts}
 use Rattle.bed_check_pure.proofs.SameLaws.{not_equal}
-use Rattle.bed_check_pure.proofs.AtomLaws.{some_same}
 use Rattle.bed_check_pure.proofs.RuleLaws.{counted}
 use Rattle.bed_check_heap.specs.Laws.{AppendKeeps}
 use Rattle.bed_check_heap.proofs.TakeLaws.{both_facts, put_atom, take_both, atoms_more}

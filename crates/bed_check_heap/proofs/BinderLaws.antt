@@ -1,5 +1,5 @@
 -- The binders of an assertion: with values that arguments give, and with fresh variables that have their values.
-use Rattle.std.proofs.Common.{◌≡◌, ℕ, ◌+◌, ◌<◌, ◌≤◌, Bool, if◌then◌else◌, Option, Some, None, List, [], ◌∷◌, map, refl, sym, ◌∙◌, ap, ap₂, subst, arith}
+use Rattle.std.proofs.Common.{◌≡◌, ℕ, ◌+◌, ◌<◌, ◌≤◌, Bool, if◌then◌else◌, Option, Some, None, List, [], ◌∷◌, map, refl, sym, ◌∙◌, ap, subst, arith}
 use Rattle.std.proofs.lemmas.Bool.{eq-eqb}
 use Rattle.bed_lang.specs.declared.word.Name.{Name}
 use Rattle.bed_lang.specs.declared.word.Sort.{Sort}
@@ -12,11 +12,12 @@ use Rattle.bed_lang.specs.declared.logic.Bind.{Bind}
 use Rattle.bed_lang.specs.Values.{wrap, Values, Variable, Named, Fresh, set_word, set_list, value, list_value}
 use Rattle.bed_lang.proofs.ValueLaws.{list_value-Var}
 use Rattle.bed_sat.specs.Assertions.{ArgValue, WordValue, ListValue, set_params, ForSomeValue, ForSomeValues}
+use Rattle.bed_sat.proofs.FrameLaws.{some_same}
+use Rattle.bed_sat.proofs.InstanceLaws.{wrap_twice}
 use Rattle.bed_deriv.specs.declared.derivation.DArg.{DArg}
 use Rattle.bed_deriv.specs.Arguments.{to_word, to_seq, word_value, seq_value, to_value, value_before, named, to_values}
 use Rattle.bed_deriv.specs.Opening.{fresh_value, fresh_values}
 use Rattle.bed_deriv.specs.HeapRules.{params_with, value_args, fresh_word}
-use Rattle.bed_check_pure.proofs.AtomLaws.{some_same}
 use Rattle.bed_check_heap.specs.Sound.{AgreeBelow}
 use Rattle.bed_check_heap.proofs.FreshLaws.{agree_self, agree_more, agree_more_list, set_here, value_fresh}
 use Rattle.bed_check_heap.proofs.WrapLaws.{AgreeModulo, agree_modulo_word, agree_modulo_list}
@@ -25,7 +26,7 @@ use Rattle.bed_check_heap.proofs.OpenLaws.{set_arg, set_args}
 -- ---- binders that arguments give
 
 module _ (next : ℕ) where
-  values_parts : (x : Name) (o : Option Arg) (os : Option (List (Name × Arg))) (vs : List (Name × Arg)) → value_before next (named next x o) os ≡ Some vs
+  pub values_parts : (x : Name) (o : Option Arg) (os : Option (List (Name × Arg))) (vs : List (Name × Arg)) → value_before next (named next x o) os ≡ Some vs
       → (a : Arg) × (us : List (Name × Arg)) × (o ≡ Some a) × (os ≡ Some us) × ((x, a) ∷ us ≡ vs)
   values_parts x (Some a) (Some us) vs e = (a, us, refl, refl, some_same e)
   values_parts x (Some a) None vs e = absurd cc
@@ -121,10 +122,6 @@ set_here_list ν n vs = ap (λ (b : Bool). if b then vs else ν.lists (Fresh n))
 wrap_once : (n : ℕ) → wrap n ≡ wrap (wrap n)
 wrap_once n = omega arith
 
-wrap_all_once : (xs : List ℕ) → map wrap xs ≡ map wrap (map wrap xs)
-wrap_all_once [] = refl
-wrap_all_once (x ∷ xs) = ap₂ (λ y ys. y ∷ ys) (wrap_once x) (wrap_all_once xs)
-
 fresh_list : (labels : List ℕ → ℕ) (ν : Values) (n : ℕ) → list_value labels ν (SeqVar (var.Fresh n)) ≡ map wrap (ν.lists (Fresh n))
 fresh_list labels ν n = list_value-Var labels ν (var.Fresh n)
 
@@ -143,7 +140,7 @@ module _ (labels : List ℕ → ℕ) where
       let μ = fresh_set (set_list κ (Fresh n) vs) (n + 1) us in
       let stays = (fresh_agrees (n + 1) (n + 1) us (set_list κ (Fresh n) vs) (set_list κ (Fresh n) vs) (omega arith) (agree_self (n + 1) _)).lists (Fresh n) (λ m e. known_next n m e) in
       let has : list_value labels μ (SeqVar (var.Fresh n)) ≡ map wrap vs = fresh_list labels μ n ∙ ap (map wrap) (stays ∙ set_here_list κ n vs) in
-      agree_modulo_list ι1 ι2 (Named name.bytes) vs (list_value labels μ (SeqVar (var.Fresh n))) (wrap_all_once vs ∙ ap (map wrap) (sym has)) g
+      agree_modulo_list ι1 ι2 (Named name.bytes) vs (list_value labels μ (SeqVar (var.Fresh n))) (sym (wrap_twice vs) ∙ ap (map wrap) (sym has)) g
   one_fresh sort.Word (ListValue vs) us name κ n ι1 ι2 is g = absurd is
   one_fresh sort.Seq (WordValue v) us name κ n ι1 ι2 is g = absurd is
 

@@ -18,13 +18,13 @@ use Rattle.bed_sat.specs.Assertions.{blank, set_params, arg_values, AreTrueTerms
 use Rattle.bed_sat.proofs.PartLaws.{joins_comm}
 use Rattle.bed_sat.proofs.SatLaws.{meaning_more}
 use Rattle.bed_sat.proofs.InstanceLaws.{terms_true_with}
+use Rattle.bed_sat.proofs.FrameLaws.{some_same}
 use Rattle.bed_deriv.specs.declared.derivation.DArg.{DArg}
 use Rattle.bed_deriv.specs.declared.state.SymState.{SymState}
 use Rattle.bed_deriv.specs.Arguments.{at_number, number_at, name_at, to_values}
 use Rattle.bed_deriv.specs.Opening.{alone}
 use Rattle.bed_deriv.specs.Matches.{count_of_goals, count_of_atoms, atoms_left}
 use Rattle.bed_deriv.specs.HeapRules.{beside, predicate_of, value_args, fold_rule}
-use Rattle.bed_check_pure.proofs.AtomLaws.{some_same}
 use Rattle.bed_check_pure.proofs.RuleLaws.{numbered_is}
 use Rattle.bed_check_heap.specs.Laws.{FoldKeeps}
 use Rattle.bed_check_heap.proofs.TakeLaws.{chosen_numbered, put_atom, atoms_more}
@@ -40,7 +40,7 @@ count_of_args_with : (σ : Instance) (args : List Arg) → length (args_with σ 
 count_of_args_with σ [] = refl
 count_of_args_with σ (a ∷ more) = ap suc (count_of_args_with σ more)
 
-count_of_goals_with : (σ : Instance) (ts : List Term) → count_of_goals (terms_with σ ts) ≡ count_of_goals ts
+pub count_of_goals_with : (σ : Instance) (ts : List Term) → count_of_goals (terms_with σ ts) ≡ count_of_goals ts
 count_of_goals_with σ [] = refl
 count_of_goals_with σ (term.Emp ∷ ts) = ap (λ n. 0 + n) (count_of_goals_with σ ts)
 count_of_goals_with σ (term.Pure p ∷ ts) = ap (λ n. 1 + n) (count_of_goals_with σ ts)

@@ -1,5 +1,5 @@
--- A tree whose fresh variables are all known has one value under values that agree on what is known; and so a known state still holds.
-use Rattle.std.proofs.Common.{◌≡◌, ◌≢◌, ℕ, zero, suc, ◌<◌, ◌≤◌, Bool, true, false, ◌&&◌, nat_lt, IsTrue, if◌then◌else◌, Some, List, [], ◌∷◌, ◌++◌, refl, sym, ◌∙◌, ap, ap₂, subst, subst₂, arith}
+-- A tree whose fresh variables are all known has one value under values that agree on what is known: its facts stay true, and its atoms.
+use Rattle.std.proofs.Common.{◌≡◌, ◌≢◌, ℕ, zero, suc, ◌<◌, ◌≤◌, Bool, true, false, ◌&&◌, nat_lt, IsTrue, if◌then◌else◌, Some, List, [], ◌∷◌, refl, sym, ◌∙◌, ap, ap₂, subst, subst₂, arith}
 use Rattle.std.specs.Prelude.{slice_get}
 use Rattle.std.proofs.lemmas.Bool.{and_parts, and_from, ltb-true, eq-eqb, ne_eqb}
 use Rattle.bed_machine.specs.Memory.{Memory}
@@ -19,15 +19,14 @@ use Rattle.bed_lang.specs.Values.{wrap, Values, Variable, Named, Old, Answer, Fr
 use Rattle.bed_lang.proofs.ValueLaws.{value-Var}
 use Rattle.bed_sat.specs.Cells.{IsCell, IsByte, IsBlock}
 use Rattle.bed_sat.specs.Facts.{IsTrueFact}
-use Rattle.bed_sat.specs.Assertions.{WordValue, ListValue, Meaning, arg_value, arg_values, IsTrueAtom, World, meaning}
+use Rattle.bed_sat.specs.Assertions.{WordValue, ListValue, Meaning, arg_value, arg_values, IsTrueAtom, World}
 use Rattle.bed_sat.specs.Scopes.{Scope, word_in, word_in_step, seq_in, seq_in_step, pure_in, Agree}
 use Rattle.bed_sat.proofs.ScopeLaws.{word_agree, seq_agree, fact_agree}
-use Rattle.bed_deriv.specs.declared.state.SymState.{SymState}
-use Rattle.bed_deriv.specs.Fresh.{every, known_var, known_word_step, known_word, known_seq_step, known_seq, known_arg, known_pure, known_atom, IsKnownState}
+use Rattle.bed_sat.proofs.FrameLaws.{some_same}
+use Rattle.bed_deriv.specs.Fresh.{every, known_var, known_word_step, known_word, known_seq_step, known_seq, known_arg, known_pure, known_atom}
 use Rattle.bed_deriv.specs.HeapRules.{without, fresh_word}
-use Rattle.bed_check_pure.specs.States.{AreTrueFacts, AreTrueAtoms, StateHolds}
+use Rattle.bed_check_pure.specs.States.{AreTrueFacts, AreTrueAtoms}
 use Rattle.bed_check_heap.specs.Sound.{AgreeBelow}
-use Rattle.bed_check_pure.proofs.AtomLaws.{some_same}
 use Rattle.bed_check_heap.proofs.TakeLaws.{without_more}
 
 -- ---- known trees are those whose variables are in a set
@@ -119,19 +118,7 @@ module _ (w : World) (next : ℕ) (ν μ : Values) (g : AgreeBelow next ν μ) w
   atoms_known M (x ∷ xs) h is t =
       let q = and_parts (known_atom next x) _ is in (t.0, t.1, t.2, atom_known M x t.0 q.0 t.3, atoms_known M xs t.1 q.1 t.4)
 
--- a known state holds under any values that agree on what it knows
-pub state_known : (w : World) (s : SymState) (ν μ : Values) (h : Memory) → IsKnownState s → AgreeBelow s.next ν μ → StateHolds w ν h s → StateHolds w μ h s
-state_known w s ν μ h known g holds = record {
-  facts = facts_known w s.next ν μ g s.facts known.facts holds.facts;
-  depth = holds.depth;
-  atoms = atoms_known w s.next ν μ g (meaning w holds.depth) s.atoms h known.atoms holds.atoms;
-}
-
 -- ---- tests of all items
-
-pub every_append : {A : Type 0} (f : A → Bool) (xs ys : List A) → IsTrue (every f xs) → IsTrue (every f ys) → IsTrue (every f (xs ++ ys))
-every_append f [] ys is more = more
-every_append f (x ∷ xs) ys is more = let h = and_parts (f x) _ is in and_from (f x) _ h.0 (every_append f xs ys h.1 more)
 
 -- an item at a place passes, and so do the others
 pub every_taken : {A : Type 0} (f : A → Bool) (xs : List A) (i : ℕ) (x : A) → slice_get xs i ≡ Some x → IsTrue (every f xs) → IsTrue (f x) × IsTrue (every f (without i xs))

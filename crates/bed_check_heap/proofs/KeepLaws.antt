@@ -13,6 +13,7 @@ use Rattle.bed_sat.specs.Facts.{IsTrueFact}
 use Rattle.bed_sat.specs.Assertions.{Meaning, IsTrueAtom, World, meaning}
 use Rattle.bed_sat.proofs.PartLaws.{joins_comm, joins_assoc}
 use Rattle.bed_sat.proofs.BlockLaws.{block_small}
+use Rattle.bed_sat.proofs.FrameLaws.{some_same}
 use Rattle.bed_deriv.specs.declared.derivation.DArg.{DArg}
 use Rattle.bed_deriv.specs.declared.state.SymState.{SymState}
 use Rattle.bed_deriv.specs.declared.state.Remainder.{Remainder}
@@ -22,7 +23,6 @@ use Rattle.bed_deriv.specs.HeapRules.{claim, case_split, never, block_of, divide
 use Rattle.bed_check_pure.specs.States.{AreTrueFacts, StateHolds}
 use Rattle.bed_check_pure.proofs.SameLaws.{not_equal, one_true}
 use Rattle.bed_check_pure.proofs.CheckLaws.{roomy}
-use Rattle.bed_check_pure.proofs.AtomLaws.{some_same}
 use Rattle.bed_check_pure.proofs.RuleLaws.{counted, holds_with}
 use Rattle.bed_check_heap.specs.Sound.{SomeHolds}
 use Rattle.bed_check_heap.proofs.TakeLaws.{both_facts, put_atom, take_numbered, take_both}

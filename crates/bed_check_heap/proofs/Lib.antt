@@ -11,7 +11,6 @@ pub mod OpenLaws
 pub mod BinderLaws
 pub mod UnfoldLaws
 pub mod FoldLaws
-pub mod TurnLaws
 pub mod SegmentLaws
 pub mod AppendLaws
 pub mod PrefixLaws

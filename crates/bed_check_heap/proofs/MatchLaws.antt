@@ -16,13 +16,12 @@ use Rattle.bed_sat.specs.Parts.{Joins}
 use Rattle.bed_sat.specs.Cells.{IsCell, IsByte, IsBlock}
 use Rattle.bed_sat.specs.Assertions.{WordValue, ListValue, Meaning, arg_value, arg_values, IsTrueAtom, AreTrueTerms, World, meaning}
 use Rattle.bed_sat.proofs.PartLaws.{joins_comm, to_empty}
-use Rattle.bed_sat.proofs.FrameLaws.{bytes_eq_is}
+use Rattle.bed_sat.proofs.FrameLaws.{bytes_eq_is, some_same}
 use Rattle.bed_sat.proofs.InstanceLaws.{terms_true_with}
 use Rattle.bed_deriv.specs.declared.derivation.DArg.{DArg}
 use Rattle.bed_deriv.specs.declared.state.SymState.{SymState}
 use Rattle.bed_deriv.specs.Matches.{atom_goals, count_of_goals, count_of_atoms, all_different, atoms_left, arg_goal, goal_before, arg_equations, atom_equations, goals_before, match_goals}
 use Rattle.bed_check_pure.specs.States.{AreTrueFacts, AreTrueAtoms}
-use Rattle.bed_check_pure.proofs.AtomLaws.{some_same}
 use Rattle.bed_check_heap.specs.Sound.{atoms_numbered}
 use Rattle.bed_check_heap.specs.Instances.{Matched, match_terms}
 use Rattle.bed_check_heap.proofs.TakeLaws.{atoms_chosen, AreNumbered, chosen_numbered, numbers_are_left, take_chosen}
@@ -86,7 +85,7 @@ count_of_match (term.Atom x ∷ ts) (c ∷ cs) gs e =
 -- ---- where the goals are true
 
 module _ (w : World) (ν : Values) where
-  facts_parts : (ps qs : List Pure) → AreTrueFacts w ν (ps ++ qs) → AreTrueFacts w ν ps × AreTrueFacts w ν qs
+  pub facts_parts : (ps qs : List Pure) → AreTrueFacts w ν (ps ++ qs) → AreTrueFacts w ν ps × AreTrueFacts w ν qs
   facts_parts [] qs t = (tt, t)
   facts_parts (p ∷ ps) qs t = let k = facts_parts ps qs t.1 in ((t.0, k.0), k.1)
 

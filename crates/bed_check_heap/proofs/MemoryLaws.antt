@@ -1,11 +1,11 @@
 -- Parts of memory in another shape: a block as two, two blocks as one, a cell as four bytes, four bytes as a cell.
-use Rattle.std.proofs.Common.{◌≡◌, ◌≢◌, ℕ, ◌+◌, ◌-◌, ◌*◌, ◌<◌, ◌≤◌, ◌⊎◌, Bool, true, false, nat_eq, if◌then◌else◌, Option, Some, None, List, [], ◌∷◌, ◌++◌, length, take, drop, inl, inr, refl, sym, ◌∙◌, ap, subst, arith, take-append-drop, length-drop, length-take-le, length-append}
+use Rattle.std.proofs.Common.{◌≡◌, ◌≢◌, ℕ, ◌+◌, ◌-◌, ◌*◌, ◌<◌, ◌≤◌, Bool, true, false, nat_eq, if◌then◌else◌, Option, Some, None, List, [], ◌∷◌, ◌++◌, length, take, drop, inl, inr, refl, sym, ◌∙◌, ap, subst, arith, take-append-drop, length-drop, length-take-le, length-append}
 use Rattle.std.proofs.lemmas.Bool.{eqb-true, eqb-false, eq-eqb, ne_eqb}
 use Rattle.bed_machine.specs.Memory.{Memory, empty, wrap}
 use Rattle.bed_machine.proofs.WordLaws.{four_bytes, word_of_four}
 use Rattle.bed_sat.specs.Parts.{Meet, Joins}
 use Rattle.bed_sat.specs.Cells.{IsCell, IsByte, AreWordsAt, IsBlock}
-use Rattle.bed_sat.proofs.PartLaws.{joins_empty, to_empty, joins_left, joins_right}
+use Rattle.bed_sat.proofs.PartLaws.{joins_empty, to_empty, joins_left, joins_right, in_a_part}
 use Rattle.bed_sat.proofs.BlockLaws.{words_append, append_words}
 
 -- ---- blocks
@@ -26,16 +26,6 @@ blocks_merge a n m h front back fits j is more = (
   (let l = length-append is.0 more.0 in omega (arith, l, is.1, more.1)),
   append_words a is.0 more.0 h front back fits j is.2 (subst (λ k. AreWordsAt (wrap (a + 4 * k)) more.0 back) (sym is.1) more.2),
 )
-
--- a cell's content is a word
-pub cell_small : (a v : ℕ) (h : Memory) → IsCell a v h → v < 4294967296
-cell_small a v h c =
-    let f = four_bytes h a v c.holds in
-    let b0 = c.only _ _ f.at_low in
-    let b1 = c.only _ _ f.at_second in
-    let b2 = c.only _ _ f.at_third in
-    let b3 = c.only _ _ f.at_high in
-    omega (arith, f.sum, b0.2, b1.2, b2.2, b3.2)
 
 -- a block of one word is a cell
 pub block_is_cell : (a : ℕ) (h : Memory) → IsBlock a 1 h → (v : ℕ) × IsCell a v h
@@ -166,14 +156,6 @@ cell_bytes a v h c =
       is_third = one_is_byte (a + 2) f.third (c.only _ _ f.at_third).2;
       is_high = subst (IsByte (a + 3) f.high) (sym last) (one_is_byte (a + 3) f.high (c.only _ _ f.at_high).2);
     }
-
-meets_or : (m l r : Option ℕ) (v : ℕ) → Meet m l r → m ≡ Some v → (l ≡ Some v) ⊎ (r ≡ Some v)
-meets_or m l r v (inl p) e = inr (sym p.1 ∙ e)
-meets_or m l r v (inr p) e = inl (sym p.1 ∙ e)
-
--- a byte of a memory is one of a part
-pub in_a_part : {m l r : Memory} → Joins m l r → (x v : ℕ) → m x ≡ Some v → (l x ≡ Some v) ⊎ (r x ≡ Some v)
-in_a_part j x v e = meets_or _ _ _ v (j.at x) e
 
 -- four bytes, one right after the other, are a cell
 pub bytes_are_cell : (a b0 b1 b2 b3 : ℕ) (h h0 r0 h1 r1 h2 h3 : Memory) → a ≤ 4294967292

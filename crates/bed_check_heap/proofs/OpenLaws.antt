@@ -49,11 +49,11 @@ module _ (labels : List ℕ → ℕ) (ν : Values) where
   params_are_set codes κ (b ∷ bs) (arg.Seq at s ∷ args) = params_are_set codes (set_list κ (Named b.name.bytes) (list_value labels ν s)) bs args
   params_are_set codes κ (b ∷ bs) (arg.Bare name ∷ args) = params_are_set codes (set_word κ (Named b.name.bytes) 0) bs args
 
-  abbrev word_from : ℕ → Option Arg → ℕ
+  abbrev pub word_from : ℕ → Option Arg → ℕ
   word_from v None = v
   word_from v (Some a) = value labels ν (word_in a)
 
-  abbrev list_from : List ℕ → Option Arg → List ℕ
+  abbrev pub list_from : List ℕ → Option Arg → List ℕ
   list_from vs None = vs
   list_from vs (Some a) = list_value labels ν (seq_in a)
 
@@ -92,7 +92,7 @@ module _ (labels : List ℕ → ℕ) (ν : Values) where
       by false = refl
 
   -- a name has the last value of its sort
-  words_set : (vs : List (Name × Arg)) (κ : Values) (x : List ℕ) → (set_args κ vs).words (Named x) ≡ word_from (κ.words (Named x)) (value_for sort.Word vs x)
+  pub words_set : (vs : List (Name × Arg)) (κ : Values) (x : List ℕ) → (set_args κ vs).words (Named x) ≡ word_from (κ.words (Named x)) (value_for sort.Word vs x)
   words_set [] κ x = refl
   words_set (v ∷ vs) κ x = words_set vs (set_arg κ v.0 v.1) x ∙ by (value_for sort.Word vs x)
     where
@@ -100,7 +100,7 @@ module _ (labels : List ℕ → ℕ) (ν : Values) where
       by (Some a) = refl
       by None = arg_word κ v.0 v.1 x
 
-  lists_set : (vs : List (Name × Arg)) (κ : Values) (x : List ℕ) → (set_args κ vs).lists (Named x) ≡ list_from (κ.lists (Named x)) (value_for sort.Seq vs x)
+  pub lists_set : (vs : List (Name × Arg)) (κ : Values) (x : List ℕ) → (set_args κ vs).lists (Named x) ≡ list_from (κ.lists (Named x)) (value_for sort.Seq vs x)
   lists_set [] κ x = refl
   lists_set (v ∷ vs) κ x = lists_set vs (set_arg κ v.0 v.1) x ∙ by (value_for sort.Seq vs x)
     where
@@ -115,7 +115,7 @@ module _ (labels : List ℕ → ℕ) (ν : Values) where
   arg_others κ n (arg.Seq at s) y no_name = (refl, ap (λ (b : Bool). if b then list_value labels ν s else κ.lists y) no_name)
   arg_others κ n (arg.Bare name) y no_name = (ap (λ (b : Bool). if b then 0 else κ.words y) no_name, refl)
 
-  others_stay : (vs : List (Name × Arg)) (κ : Values) (y : Variable) → ((x : List ℕ) → same_variable y (Named x) ≡ false)
+  pub others_stay : (vs : List (Name × Arg)) (κ : Values) (y : Variable) → ((x : List ℕ) → same_variable y (Named x) ≡ false)
       → ((set_args κ vs).words y ≡ κ.words y) × ((set_args κ vs).lists y ≡ κ.lists y)
   others_stay [] κ y no_name = (refl, refl)
   others_stay (v ∷ vs) κ y no_name =
@@ -125,9 +125,6 @@ module _ (labels : List ℕ → ℕ) (ν : Values) where
 
   zero_word : value labels ν (Number 0) ≡ 0
   zero_word = value-Number labels ν 0
-
-  no_list : list_value labels ν Nil ≡ []
-  no_list = list_value-Nil labels ν
 
   alone_words : (vs : List (Name × Arg)) (x : Variable) → value labels ν (word_or_0 vs x) ≡ (set_args blank vs).words x
   alone_words vs (Named x) = by (value_for sort.Word vs x) ∙ sym (words_set vs blank x)
@@ -144,12 +141,12 @@ module _ (labels : List ℕ → ℕ) (ν : Values) where
   alone_lists vs (Named x) = by (value_for sort.Seq vs x) ∙ sym (lists_set vs blank x)
     where
       by : (o : Option Arg) → list_value labels ν (seq_or o Nil) ≡ list_from [] o
-      by None = no_list
+      by None = list_value-Nil labels ν
       by (Some a) = refl
-  alone_lists vs (Old x) = no_list ∙ sym (others_stay vs blank (Old x) (λ n. refl)).1
-  alone_lists vs Answer = no_list ∙ sym (others_stay vs blank Answer (λ n. refl)).1
-  alone_lists vs (Fresh n) = no_list ∙ sym (others_stay vs blank (Fresh n) (λ m. refl)).1
-  alone_lists vs Hole = no_list ∙ sym (others_stay vs blank Hole (λ n. refl)).1
+  alone_lists vs (Old x) = list_value-Nil labels ν ∙ sym (others_stay vs blank (Old x) (λ n. refl)).1
+  alone_lists vs Answer = list_value-Nil labels ν ∙ sym (others_stay vs blank Answer (λ n. refl)).1
+  alone_lists vs (Fresh n) = list_value-Nil labels ν ∙ sym (others_stay vs blank (Fresh n) (λ m. refl)).1
+  alone_lists vs Hole = list_value-Nil labels ν ∙ sym (others_stay vs blank Hole (λ n. refl)).1
 
   -- names alone are replaced: the others are 0, or empty
   pub alone_is : (vs : List (Name × Arg)) → values_with (alone vs) labels ν ≡ set_args blank vs

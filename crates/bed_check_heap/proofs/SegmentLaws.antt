@@ -21,9 +21,8 @@ use Rattle.bed_sat.specs.Cells.{IsCell}
 use Rattle.bed_sat.specs.Assertions.{ArgValue, WordValue, ListValue, Meaning, blank, set_params, IsTrueWith, World, meaning}
 use Rattle.bed_sat.proofs.PartLaws.{joins_comm, joins_assoc, joins_empty, to_empty}
 use Rattle.bed_sat.proofs.SatLaws.{Within, meaning_more}
-use Rattle.bed_sat.proofs.SameLaws.{true_same}
-use Rattle.bed_check_pure.proofs.AtomLaws.{some_same}
-use Rattle.bed_check_heap.proofs.TurnLaws.{params_alike, true_back, case_alike}
+use Rattle.bed_sat.proofs.SameLaws.{true_same, params_same, case_same}
+use Rattle.bed_sat.proofs.FrameLaws.{some_same}
 use Rattle.bed_check_heap.proofs.UnfoldLaws.{case_of}
 
 -- a segment's arguments: its start, its end and its elements
@@ -207,11 +206,11 @@ module _ (w : World) (p : Predicate) (declared : predicate_named w.decls (codes 
       → (wrap a ≡ wrap b) × (map wrap xs ≡ []) × (h ≡ empty) ⊎ IsNode (meaning w k) a b xs h
   segment_cases k a b xs h is =
       let c = case_of w (suc k) (codes "lseg") p (segment_values a b xs) h declared is in
-      let (B, at, same) = case_alike p.cases lseg.cases c.number c.case same_cases c.at in
-      let given = true_same w.codes w.labels (meaning w c.less) (set_params blank p.params (segment_values a b xs)) c.case B h same c.holds in
+      let (B, at, same) = case_same p.cases lseg.cases c.number c.case same_cases c.at in
+      let given = (true_same w.codes w.labels (meaning w c.less) (set_params blank p.params (segment_values a b xs)) c.case B h same).0 c.holds in
       let less : c.less ≡ k = let e = c.deeper in omega arith in
       by_number (meaning w k) a b xs h c.number B at
-      (subst₂ (λ m ν. IsTrueWith w.codes w.labels (meaning w m) ν B h) less (params_alike blank p.params lseg.params (segment_values a b xs) same_params) given)
+      (subst₂ (λ m ν. IsTrueWith w.codes w.labels (meaning w m) ν B h) less (params_same blank p.params lseg.params (segment_values a b xs) same_params) given)
 
   -- a node before a segment is a segment
   node_segment : (k a b : ℕ) (xs : List ℕ) (h : Memory) → IsNode (meaning w k) a b xs h → Seg (suc k) a b xs h
@@ -224,8 +223,8 @@ module _ (w : World) (p : Predicate) (declared : predicate_named w.decls (codes 
         1,
         A,
         at,
-        true_back w.codes w.labels M _ A longer_segment h same
-            (subst (λ ν. IsTrueWith w.codes w.labels M ν longer_segment h) (sym (params_alike blank p.params lseg.params (segment_values a b xs) same_params)) given),
+        (true_same w.codes w.labels M _ A longer_segment h same).1
+            (subst (λ ν. IsTrueWith w.codes w.labels M ν longer_segment h) (sym (params_same blank p.params lseg.params (segment_values a b xs) same_params)) given),
       )
 
   -- two segments in a row are one

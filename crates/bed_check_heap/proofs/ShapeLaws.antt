@@ -11,18 +11,18 @@ use Rattle.bed_sat.specs.Parts.{Joins}
 use Rattle.bed_sat.specs.Cells.{IsCell, IsByte, IsBlock}
 use Rattle.bed_sat.specs.Assertions.{Meaning, IsTrueAtom, World, meaning}
 use Rattle.bed_sat.proofs.PartLaws.{joins_comm, joins_assoc, joins_empty}
+use Rattle.bed_sat.proofs.FrameLaws.{cell_small, some_same}
 use Rattle.bed_deriv.specs.declared.derivation.DArg.{DArg}
 use Rattle.bed_deriv.specs.declared.state.SymState.{SymState}
 use Rattle.bed_deriv.specs.Matches.{all_different}
 use Rattle.bed_deriv.specs.Fresh.{known_word, known_atom}
 use Rattle.bed_deriv.specs.HeapRules.{taken, with_next, block_of, cell_of, byte_of, fresh_word, four_bytes, bytes_at, cell_to_bytes, four_chosen, bytes_to_cell, block_to_cell, cell_to_block, drop_block, Shape, CellToBytes, BytesToCell, BlockToCell, CellToBlock, DropBlock, shape_of, shape}
 use Rattle.bed_check_pure.specs.States.{AreTrueAtoms}
-use Rattle.bed_check_pure.proofs.AtomLaws.{some_same}
 use Rattle.bed_check_pure.proofs.RuleLaws.{counted, numbered_is, holds_with}
 use Rattle.bed_check_heap.specs.Sound.{AgreeBelow}
 use Rattle.bed_check_heap.proofs.TakeLaws.{AreNumbered, chosen_numbered, put_atom, take_numbered, take_chosen}
 use Rattle.bed_check_heap.proofs.FreshLaws.{agree_self, agree_more, set_here, set_elsewhere, value_fresh, value_known, facts_known, atoms_known, every_taken}
-use Rattle.bed_check_heap.proofs.MemoryLaws.{cell_small, block_is_cell, cell_is_block, block_is_empty, CellBytes, cell_bytes, bytes_are_cell}
+use Rattle.bed_check_heap.proofs.MemoryLaws.{block_is_cell, cell_is_block, block_is_empty, CellBytes, cell_bytes, bytes_are_cell}
 use Rattle.bed_check_heap.proofs.KeepLaws.{Every, Keeps, block_is}
 
 -- ---- values
@@ -84,14 +84,14 @@ module _ (ν : Values) (f b0 b1 b2 b3 : ℕ) where
 -- ---- atoms of a kind
 
 module _ (w : World) (P : Meaning) (ν : Values) where
-  cell_is : (x : Atom) (c : Word × Word) (m : Memory) → cell_of x ≡ Some c → IsTrueAtom w.codes w.labels P ν x m
+  pub cell_is : (x : Atom) (c : Word × Word) (m : Memory) → cell_of x ≡ Some c → IsTrueAtom w.codes w.labels P ν x m
       → IsCell (value w.labels ν c.0) (value w.labels ν c.1) m
   cell_is (atom.Cell e v) c m at is = subst (λ (d : Word × Word). IsCell (value w.labels ν d.0) (value w.labels ν d.1) m) (some_same at) is
   cell_is (atom.Byte e v) c m at is = absurd cc
   cell_is (atom.Block e k) c m at is = absurd cc
   cell_is (atom.Pred name args) c m at is = absurd cc
 
-  byte_is : (x : Atom) (c : Word × Word) (m : Memory) → byte_of x ≡ Some c → IsTrueAtom w.codes w.labels P ν x m
+  pub byte_is : (x : Atom) (c : Word × Word) (m : Memory) → byte_of x ≡ Some c → IsTrueAtom w.codes w.labels P ν x m
       → IsByte (value w.labels ν c.0) (value w.labels ν c.1) m
   byte_is (atom.Byte e v) c m at is = subst (λ (d : Word × Word). IsByte (value w.labels ν d.0) (value w.labels ν d.1) m) (some_same at) is
   byte_is (atom.Cell e v) c m at is = absurd cc

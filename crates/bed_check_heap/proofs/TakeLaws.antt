@@ -10,13 +10,13 @@ use Rattle.bed_sat.specs.Parts.{Joins}
 use Rattle.bed_sat.specs.Assertions.{Meaning, IsTrueAtom, World}
 use Rattle.bed_sat.proofs.PartLaws.{joins_comm, joins_assoc, joins_empty, to_empty}
 use Rattle.bed_sat.proofs.SatLaws.{Within}
+use Rattle.bed_sat.proofs.FrameLaws.{some_same}
 use Rattle.bed_deriv.specs.declared.derivation.DArg.{DArg}
 use Rattle.bed_deriv.specs.declared.state.SymState.{SymState}
 use Rattle.bed_deriv.specs.Arguments.{numbered, to_number}
 use Rattle.bed_deriv.specs.Matches.{with_number, atom_numbered, choice_before, chosen, is_chosen, all_different, numbers_left, atoms_left}
 use Rattle.bed_deriv.specs.HeapRules.{without, taken, both_taken}
 use Rattle.bed_check_pure.specs.States.{AreTrueAtoms}
-use Rattle.bed_check_pure.proofs.AtomLaws.{some_same}
 use Rattle.bed_check_pure.proofs.RuleLaws.{numbered_is}
 use Rattle.bed_check_heap.specs.Sound.{atom_before, atoms_numbered}
 

@@ -20,13 +20,13 @@ use Rattle.bed_sat.specs.Assertions.{ArgValue, Meaning, blank, set_params, arg_v
 use Rattle.bed_sat.proofs.PartLaws.{joins_comm, joins_empty}
 use Rattle.bed_sat.proofs.SatLaws.{meaning_more}
 use Rattle.bed_sat.proofs.InstanceLaws.{terms_true_with}
+use Rattle.bed_sat.proofs.FrameLaws.{some_same}
 use Rattle.bed_deriv.specs.declared.derivation.DArg.{DArg}
 use Rattle.bed_deriv.specs.declared.state.SymState.{SymState}
 use Rattle.bed_deriv.specs.Fresh.{every, known_arg, known_atom}
 use Rattle.bed_deriv.specs.Opening.{alone, fresh_values, facts_of, atoms_of, opened}
 use Rattle.bed_deriv.specs.HeapRules.{taken, params_with, with_args, declared, cases_opened, unfold_rule}
 use Rattle.bed_check_pure.specs.States.{AreTrueFacts, AreTrueAtoms, StateHolds}
-use Rattle.bed_check_pure.proofs.AtomLaws.{some_same}
 use Rattle.bed_check_pure.proofs.RuleLaws.{numbered_is}
 use Rattle.bed_check_heap.specs.Laws.{UnfoldKeeps}
 use Rattle.bed_check_heap.specs.Sound.{AgreeBelow, SomeHolds}
@@ -39,7 +39,7 @@ use Rattle.bed_check_heap.proofs.KeepLaws.{Every, Keeps, kept}
 
 -- ---- terms as facts and atoms
 
-facts_join : (w : World) (ν : Values) (ps qs : List Pure) → AreTrueFacts w ν ps → AreTrueFacts w ν qs → AreTrueFacts w ν (ps ++ qs)
+pub facts_join : (w : World) (ν : Values) (ps qs : List Pure) → AreTrueFacts w ν ps → AreTrueFacts w ν qs → AreTrueFacts w ν (ps ++ qs)
 facts_join w ν [] qs t u = u
 facts_join w ν (p ∷ ps) qs t u = (t.0, facts_join w ν ps qs t.1 u)
 

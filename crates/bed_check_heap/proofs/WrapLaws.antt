@@ -26,7 +26,7 @@ pub record AgreeModulo (ν μ : Values) : Type 0 where
 pub agree_modulo_self : (ν : Values) → AgreeModulo ν ν
 agree_modulo_self ν = record { words = λ x. refl; lists = λ x. refl }
 
-if_wrapped : {A B : Type 0} (f : A → B) (b : Bool) (v u m n : A) → f v ≡ f u → f m ≡ f n → f (if b then v else m) ≡ f (if b then u else n)
+pub if_wrapped : {A B : Type 0} (f : A → B) (b : Bool) (v u m n : A) → f v ≡ f u → f m ≡ f n → f (if b then v else m) ≡ f (if b then u else n)
 if_wrapped f true v u m n e g = e
 if_wrapped f false v u m n e g = g
 

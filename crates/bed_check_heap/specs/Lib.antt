@@ -6,4 +6,3 @@ pub mod Parts
 pub mod Matching
 pub mod Refusals
 pub mod Examples
-pub mod Paths

@@ -425,7 +425,7 @@ fn drop_block(alloc: Global, s: &SymState, args: &[DArg], n: usize) -> Result<Re
 
 // ---- which of them
 
-#[tactic(auto, using(crate::proofs::RoomLaws::no_shape))]
+#[tactic(auto, using(bed_check_pure::proofs::RefusalLaws::no_shape))]
 fn shape_of(
     alloc: Global,
     s: &SymState,

@@ -8,19 +8,14 @@ use Rattle.bed_lang.specs.declared.logic.Atom.{Atom}
 use Rattle.bed_lang.specs.declared.logic.Atom.TheVariants.{Cell, Byte, Block, Pred}
 use Rattle.bed_lang.specs.Values.{Values, value}
 use Rattle.bed_lang.proofs.ValueLaws.{value-Number}
-use Rattle.bed_sat.specs.Parts.{Meet, Joins, Includes}
+use Rattle.bed_sat.specs.Parts.{Joins, Includes}
 use Rattle.bed_sat.specs.Facts.{IsTrueFact}
 use Rattle.bed_sat.specs.Assertions.{World, Meaning, IsTrueAtom}
 use Rattle.bed_sat.proofs.PartLaws.{joins_left, joins_right}
+use Rattle.bed_sat.proofs.FrameLaws.{some_same}
+use Rattle.bed_sat.proofs.BlockLaws.{meet_twice}
 use Rattle.bed_deriv.specs.PureRules.{address, bound_of}
 use Rattle.bed_check_pure.specs.States.{AreTrueAtoms}
-
-not_twice : (whole left right : Option ℕ) (u v : ℕ) → Meet whole left right → left ≡ Some u → right ≡ Some v → ⊥
-not_twice whole left right u v m e f = grind arith
-
--- two values that are there are the same
-pub some_same : {A : Type 0} {x y : A} → ◌≡◌ {A = Option A} (Some x) (Some y) → x ≡ y
-some_same e = cc
 
 module _ (w : World) (ν : Values) (P : Meaning) where
   abbrev V : Word → ℕ
@@ -80,7 +75,7 @@ module _ (w : World) (ν : Values) (P : Meaning) where
   first_apart y xs i x a b h here others j t more e is at = λ same.
       let (u, one) = at_address y a here t is in
       let (v, other) = listed_address xs i x b others more e at in
-      not_twice _ _ _ u v (j.at (V a)) one (subst (λ n. others n ≡ Some v) (sym same) other)
+      meet_twice _ _ _ u v (j.at (V a)) one (subst (λ n. others n ≡ Some v) (sym same) other)
 
   -- two different cells or bytes have different addresses
   pub listed_apart : (xs : List Atom) (i k : ℕ) (x y : Atom) (a b : Word) (h : Memory) → AreTrueAtoms w ν P xs h

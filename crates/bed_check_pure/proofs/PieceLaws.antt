@@ -16,10 +16,6 @@ use Rattle.bed_sat.specs.Facts.{IsTrueFact}
 use Rattle.bed_deriv.specs.ListRules.{membership, absence, in_piece, not_in_piece}
 use Rattle.bed_check_pure.proofs.RebuiltLaws.{form_word-value}
 
-pub first_or_later : (x : ℕ) (xs : List ℕ) (v : ℕ) → Contains (x ∷ xs) v → (x ≡ v) ⊎ Contains xs v
-first_or_later x xs v (zero, l, e) = inl e
-first_or_later x xs v (suc k, l, e) = inr (k, omega arith, e)
-
 only_one : (x v : ℕ) → Contains (x ∷ []) v → x ≡ v
 only_one x v (zero, l, e) = e
 only_one x v (suc k, l, e) = absurd (omega arith)

@@ -1,5 +1,6 @@
 -- At a goal that is a fact, a node of a rule that changes a state is refused by the premises that are tested there.
 use Rattle.std.proofs.Common.{◌≡◌, ◌≢◌, ℕ, suc, ◌-◌, Bool, true, false, ◌&&◌, ◌==◌, if◌then◌else◌, List, [], ◌∷◌, length, drop, is_some, Option, Some, None, Result, Ok, Err, refl, sym, ap, ◌∙◌, subst, arith}
+use Rattle.bed_sat.proofs.FrameLaws.{some_same}
 use Rattle.std.specs.Prelude.{slice_get}
 use Rattle.std.specs.Cmp.{unsigned_Decides}
 use Rattle.std.proofs.Math.Bool.{and-true}
@@ -17,7 +18,6 @@ use Rattle.bed_deriv.specs.Matches.{with_number, atom_numbered, choice_before, c
 use Rattle.bed_deriv.specs.HeapRules.{claim, case_split, never, divide, merge, shape, block_of, cell_of, four_chosen, Shape, CellToBytes, BytesToCell, BlockToCell, CellToBlock, DropBlock, shapes, shape_of}
 use Rattle.bed_deriv.specs.Derives.{refused}
 use Rattle.bed_check_pure.specs.Refusals.{claim_refused, never_refused, divide_refused, merge_refused, atom_refused, is_atom, are_atoms, bytes_refused, form_refused, shape_refused}
-use Rattle.bed_check_pure.proofs.AtomLaws.{some_same}
 use Rattle.bed_check_pure.proofs.RuleLaws.{same_number}
 
 -- what is refused is never accepted, and whatever room the states have it is refused so

@@ -11,16 +11,16 @@ use Rattle.bed_lang.specs.Values.{wrap, Values, value}
 use Rattle.bed_lang.proofs.ValueLaws.{value-Number, value-Add, value-small}
 use Rattle.bed_sat.specs.Facts.{IsTrueFact}
 use Rattle.bed_sat.specs.Assertions.{World, meaning}
+use Rattle.bed_sat.proofs.FrameLaws.{some_same}
 use Rattle.bed_deriv.specs.declared.derivation.DArg.{DArg}
 use Rattle.bed_deriv.specs.declared.state.SymState.{SymState}
 use Rattle.bed_deriv.specs.declared.state.Sequent.{Sequent}
 use Rattle.bed_deriv.specs.Arguments.{numbered, at_number, number_at, fact_at, counts}
-use Rattle.bed_deriv.specs.Checks.{Goals, with_fact, sequent}
+use Rattle.bed_deriv.specs.Checks.{Goals, with_fact}
 use Rattle.bed_deriv.specs.PureRules.{hyp, norm, order, order_children, order_goals, cut, carry, split, contradiction, distinct, bound}
 use Rattle.bed_check_pure.specs.States.{AreTrueFacts, StateHolds}
-use Rattle.bed_check_pure.specs.Sound.{FollowsAt}
 use Rattle.bed_check_pure.proofs.SameLaws.{not_equal, same_facts-true, one_true, not_both, by_norm-true}
-use Rattle.bed_check_pure.proofs.AtomLaws.{some_same, bounded, listed_atom, listed_apart}
+use Rattle.bed_check_pure.proofs.AtomLaws.{bounded, listed_atom, listed_apart}
 use Rattle.bed_check_pure.proofs.CheckLaws.{IsSoundCheck}
 
 pub same_number : (m n : ℕ) → (m == n) ≡ true → m ≡ n
@@ -77,9 +77,6 @@ module _ (w : World) (ν : Values) (h : Memory) where
   -- the goal that a check was given is the node's
   pub goal_true : (q : Sequent) (g : Pure) → Some q.goal ≡ Some g → Is g → Is q.goal
   goal_true q g is t = subst (λ (z : Pure). Is z) (sym (some_same is)) t
-
-  goal_follows : (q : Sequent) (s : SymState) (g : Pure) → Some q.goal ≡ Some g → FollowsAt w ν h (sequent s g) → StateHolds w ν h s → Is q.goal
-  goal_follows q s g is follows holds = goal_true q g is (follows holds)
 
   -- ---- the rules
 

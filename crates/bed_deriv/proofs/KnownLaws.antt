@@ -18,10 +18,12 @@ use Rattle.bed_lang.specs.declared.logic.Pure.{Pure}
 use Rattle.bed_lang.specs.declared.logic.Pure.TheVariants as pure
 use Rattle.bed_lang.specs.declared.logic.Atom.{Atom}
 use Rattle.bed_lang.specs.declared.logic.Atom.TheVariants as atom
-use Rattle.bed_lang.specs.Values.{Named, Old, Answer, Hole, variable}
-use Rattle.bed_lang.specs.Instances.{word_with, word_with_step, seq_with, seq_with_step, arg_with, args_with, pure_with, atom_with}
-use Rattle.bed_deriv.specs.Fresh.{every, known_var, known_word, known_word_step, known_seq, known_seq_step, known_arg, known_pure, known_atom, known_value}
-use Rattle.bed_deriv.specs.Opening.{has_sort, word_in, seq_in, first_some, if_of, value_for, occurrence, word_or, seq_or, word_instead, seq_instead, replacing}
+use Rattle.bed_lang.specs.declared.logic.Term.{Term}
+use Rattle.bed_lang.specs.declared.logic.Term.TheVariants as term
+use Rattle.bed_lang.specs.Values.{Named, Old, Answer, Hole, variable, same_variable}
+use Rattle.bed_lang.specs.Instances.{Instance, word_with, word_with_step, seq_with, seq_with_step, arg_with, args_with, pure_with, atom_with, terms_with}
+use Rattle.bed_deriv.specs.Fresh.{every, known_var, known_word, known_word_step, known_seq, known_seq_step, known_arg, known_pure, known_atom, known_term, known_value}
+use Rattle.bed_deriv.specs.Opening.{has_sort, word_in, seq_in, first_some, if_of, value_for, occurrence, word_or, seq_or, word_instead, seq_instead, replacing, word_or_0, seq_or_nil, alone, with_answer, facts_of, atoms_of}
 
 pub both : (p q : Bool) → (p && q) ≡ true → (p ≡ true) × (q ≡ true)
 both true true h = (refl, refl)
@@ -73,7 +75,12 @@ module _ (next : ℕ) where
   pub known_seq-App : (s t : Seq) → known_seq next (App s t) ≡ known_seq next s && known_seq next t
   known_seq-App s t = ap (known_seq next) (sym (rolls-App s t)) ∙ known_seq_roll (Seq-F.App s t)
 
--- ---- values in place of names: where the tree has no fresh variable and the values' are known, the result's are known
+-- ---- terms in place of variables: where the tree has no fresh variable and the terms are known, the result is known
+
+-- the terms of an instance are known, but for those of fresh variables
+pub record IsKnownInstance (next : ℕ) (σ : Instance) : Type 0 where
+  pub words : (x : Var) → known_var 0 x ≡ true → known_word next (σ.words (variable x)) ≡ true
+  pub seqs : (x : Var) → known_var 0 x ≡ true → known_seq next (σ.seqs (variable x)) ≡ true
 
 no-fresh : (n : ℕ) → nat_lt n 0 ≡ true → ⊥
 no-fresh n h = grind arith
@@ -133,11 +140,40 @@ module _ (next : ℕ) (vs : List (Name × Arg)) (known : every (known_value next
   seq_instead-known (var.Fresh n) h = absurd (no-fresh n h)
   seq_instead-known var.Hole h = known_seq-Var next (occurrence Hole)
 
-  abbrev StaysKnown : Word → Type 0
-  StaysKnown w = known_word 0 w ≡ true → known_word next (word_with (replacing vs) w) ≡ true
+  pub replacing-known : IsKnownInstance next (replacing vs)
+  replacing-known = record { words = word_instead-known; seqs = seq_instead-known }
 
-  with_of : (x : Word-F Word) → word_with (replacing vs) (roll-Word x) ≡ word_with_step (replacing vs) (map-Word Word Word (word_with (replacing vs)) x)
-  with_of = fold-roll-Word Word (word_with_step (replacing vs))
+  word_or_0-known : (x : Var) → known_word next (word_or_0 vs (variable x)) ≡ true
+  word_or_0-known (var.Named x) = word_or-known (value_for sort.Word vs x.bytes) (Number 0) (value-known sort.Word vs x.bytes known) (known-Number next 0)
+  word_or_0-known (var.Old x) = known-Number next 0
+  word_or_0-known (var.Answer at) = known-Number next 0
+  word_or_0-known (var.Fresh n) = known-Number next 0
+  word_or_0-known var.Hole = known-Number next 0
+
+  seq_or_nil-known : (x : Var) → known_seq next (seq_or_nil vs (variable x)) ≡ true
+  seq_or_nil-known (var.Named x) = seq_or-known (value_for sort.Seq vs x.bytes) Nil (value-known sort.Seq vs x.bytes known) (known_seq-Nil next)
+  seq_or_nil-known (var.Old x) = known_seq-Nil next
+  seq_or_nil-known (var.Answer at) = known_seq-Nil next
+  seq_or_nil-known (var.Fresh n) = known_seq-Nil next
+  seq_or_nil-known var.Hole = known_seq-Nil next
+
+  pub alone-known : IsKnownInstance next (alone vs)
+  alone-known = record { words = λ x h. word_or_0-known x; seqs = λ x h. seq_or_nil-known x }
+
+-- `result` gives way to a known word
+pub answer-known : (next : ℕ) (σ : Instance) (t : Word) → IsKnownInstance next σ → known_word next t ≡ true → IsKnownInstance next (with_answer t σ)
+answer-known next σ t given k = record { words = λ x h. by x h (same_variable (variable x) Answer); seqs = given.seqs }
+  where
+    by : (x : Var) → known_var 0 x ≡ true → (b : Bool) → known_word next (if b then t else σ.words (variable x)) ≡ true
+    by x h true = k
+    by x h false = given.words x h
+
+module _ (next : ℕ) (σ : Instance) (given : IsKnownInstance next σ) where
+  abbrev StaysKnown : Word → Type 0
+  StaysKnown w = known_word 0 w ≡ true → known_word next (word_with σ w) ≡ true
+
+  with_of : (x : Word-F Word) → word_with σ (roll-Word x) ≡ word_with_step σ (map-Word Word Word (word_with σ) x)
+  with_of = fold-roll-Word Word (word_with_step σ)
 
   abbrev known_is : Word → Type 0
   known_is w = known_word next w ≡ true
@@ -149,64 +185,64 @@ module _ (next : ℕ) (vs : List (Name × Arg)) (known : every (known_value next
   word_layer (Word-F.Number n) h = ap (known_word next) (with_of (Word-F.Number n)) ∙ known-Number next n
   word_layer (Word-F.Label f) h = ap (known_word next) (with_of (Word-F.Label f)) ∙ known-Label next f
   word_layer (Word-F.Var x) h =
-      ap (known_word next) (with_of (Word-F.Var x)) ∙ word_instead-known x (sym (known_roll 0 (Word-F.Var x)) ∙ h)
+      ap (known_word next) (with_of (Word-F.Var x)) ∙ given.words x (sym (known_roll 0 (Word-F.Var x)) ∙ h)
   word_layer (Word-F.Add a b) h =
       let k = both (known_word 0 a.0) (known_word 0 b.0) (sym (known_roll 0 (Word-F.Add a.0 b.0)) ∙ h) in
       ap (known_word next) (with_of (Word-F.Add a.0 b.0))
-      ∙ two-words (word_with (replacing vs) a.0) (word_with (replacing vs) b.0) _ (known-Add next (word_with (replacing vs) a.0) (word_with (replacing vs) b.0)) (a.1 k.0) (b.1 k.1)
+      ∙ two-words (word_with σ a.0) (word_with σ b.0) _ (known-Add next (word_with σ a.0) (word_with σ b.0)) (a.1 k.0) (b.1 k.1)
   word_layer (Word-F.Sub a b) h =
       let k = both (known_word 0 a.0) (known_word 0 b.0) (sym (known_roll 0 (Word-F.Sub a.0 b.0)) ∙ h) in
       ap (known_word next) (with_of (Word-F.Sub a.0 b.0))
-      ∙ two-words (word_with (replacing vs) a.0) (word_with (replacing vs) b.0) _ (known-Sub next (word_with (replacing vs) a.0) (word_with (replacing vs) b.0)) (a.1 k.0) (b.1 k.1)
+      ∙ two-words (word_with σ a.0) (word_with σ b.0) _ (known-Sub next (word_with σ a.0) (word_with σ b.0)) (a.1 k.0) (b.1 k.1)
   word_layer (Word-F.Times n a) h =
-      ap (known_word next) (with_of (Word-F.Times n a.0)) ∙ known-Times next n (word_with (replacing vs) a.0) ∙ a.1 (sym (known_roll 0 (Word-F.Times n a.0)) ∙ h)
+      ap (known_word next) (with_of (Word-F.Times n a.0)) ∙ known-Times next n (word_with σ a.0) ∙ a.1 (sym (known_roll 0 (Word-F.Times n a.0)) ∙ h)
 
   pub word-stays_known : (w : Word) → StaysKnown w
   word-stays_known = ind-Word StaysKnown (λ x y is. subst (λ (z : Word-F Word). StaysKnown (roll-Word z)) is (word_layer y))
 
   abbrev SeqStaysKnown : Seq → Type 0
-  SeqStaysKnown s = known_seq 0 s ≡ true → known_seq next (seq_with (replacing vs) s) ≡ true
+  SeqStaysKnown s = known_seq 0 s ≡ true → known_seq next (seq_with σ s) ≡ true
 
-  seq_with_of : (x : Seq-F Seq) → seq_with (replacing vs) (roll-Seq x) ≡ seq_with_step (replacing vs) (map-Seq Seq Seq (seq_with (replacing vs)) x)
-  seq_with_of = fold-roll-Seq Seq (seq_with_step (replacing vs))
+  seq_with_of : (x : Seq-F Seq) → seq_with σ (roll-Seq x) ≡ seq_with_step σ (map-Seq Seq Seq (seq_with σ) x)
+  seq_with_of = fold-roll-Seq Seq (seq_with_step σ)
 
   seq_layer : (y : Seq-F ((s : Seq) × SeqStaysKnown s)) → SeqStaysKnown (roll-Seq (map-Seq _ _ (λ p. p.0) y))
   seq_layer (Seq-F.Var x) h =
-      ap (known_seq next) (seq_with_of (Seq-F.Var x)) ∙ seq_instead-known x (sym (known_seq_roll 0 (Seq-F.Var x)) ∙ h)
+      ap (known_seq next) (seq_with_of (Seq-F.Var x)) ∙ given.seqs x (sym (known_seq_roll 0 (Seq-F.Var x)) ∙ h)
   seq_layer Seq-F.Nil h = ap (known_seq next) (seq_with_of Seq-F.Nil) ∙ known_seq-Nil next
   seq_layer (Seq-F.Cons a s) h =
       let k = both (known_word 0 a) (known_seq 0 s.0) (sym (known_seq_roll 0 (Seq-F.Cons a s.0)) ∙ h) in
-      ap (known_seq next) (seq_with_of (Seq-F.Cons a s.0)) ∙ known_seq-Cons next (word_with (replacing vs) a) (seq_with (replacing vs) s.0)
+      ap (known_seq next) (seq_with_of (Seq-F.Cons a s.0)) ∙ known_seq-Cons next (word_with σ a) (seq_with σ s.0)
       ∙ and-true _ _ (word-stays_known a k.0) (s.1 k.1)
   seq_layer (Seq-F.App s t) h =
       let k = both (known_seq 0 s.0) (known_seq 0 t.0) (sym (known_seq_roll 0 (Seq-F.App s.0 t.0)) ∙ h) in
-      ap (known_seq next) (seq_with_of (Seq-F.App s.0 t.0)) ∙ known_seq-App next (seq_with (replacing vs) s.0) (seq_with (replacing vs) t.0)
+      ap (known_seq next) (seq_with_of (Seq-F.App s.0 t.0)) ∙ known_seq-App next (seq_with σ s.0) (seq_with σ t.0)
       ∙ and-true _ _ (s.1 k.0) (t.1 k.1)
 
   pub seq-stays_known : (s : Seq) → SeqStaysKnown s
   seq-stays_known = ind-Seq SeqStaysKnown (λ x y is. subst (λ (z : Seq-F Seq). SeqStaysKnown (roll-Seq z)) is (seq_layer y))
 
-  arg-stays_known : (a : Arg) → known_arg 0 a ≡ true → known_arg next (arg_with (replacing vs) a) ≡ true
+  arg-stays_known : (a : Arg) → known_arg 0 a ≡ true → known_arg next (arg_with σ a) ≡ true
   arg-stays_known (arg.Word at w) h = word-stays_known w h
   arg-stays_known (arg.Seq at s) h = seq-stays_known s h
   arg-stays_known (arg.Bare name) h = refl
 
-  args-stay_known : (args : List Arg) → every (known_arg 0) args ≡ true → every (known_arg next) (args_with (replacing vs) args) ≡ true
+  args-stay_known : (args : List Arg) → every (known_arg 0) args ≡ true → every (known_arg next) (args_with σ args) ≡ true
   args-stay_known [] h = refl
   args-stay_known (a ∷ args) h =
       let k = both (known_arg 0 a) (every (known_arg 0) args) h in and-true _ _ (arg-stays_known a k.0) (args-stay_known args k.1)
 
   words-stay_known : (a b : Word) → (known_word 0 a && known_word 0 b) ≡ true
-      → (known_word next (word_with (replacing vs) a) && known_word next (word_with (replacing vs) b)) ≡ true
+      → (known_word next (word_with σ a) && known_word next (word_with σ b)) ≡ true
   words-stay_known a b h =
       let k = both (known_word 0 a) (known_word 0 b) h in and-true _ _ (word-stays_known a k.0) (word-stays_known b k.1)
 
   member-stays_known : (a : Word) (s : Seq) → (known_word 0 a && known_seq 0 s) ≡ true
-      → (known_word next (word_with (replacing vs) a) && known_seq next (seq_with (replacing vs) s)) ≡ true
+      → (known_word next (word_with σ a) && known_seq next (seq_with σ s)) ≡ true
   member-stays_known a s h =
       let k = both (known_word 0 a) (known_seq 0 s) h in and-true _ _ (word-stays_known a k.0) (seq-stays_known s k.1)
 
-  pub fact-stays_known : (p : Pure) → known_pure 0 p ≡ true → known_pure next (pure_with (replacing vs) p) ≡ true
+  pub fact-stays_known : (p : Pure) → known_pure 0 p ≡ true → known_pure next (pure_with σ p) ≡ true
   fact-stays_known (pure.Equal a b) h = words-stay_known a b h
   fact-stays_known (pure.Unequal a b) h = words-stay_known a b h
   fact-stays_known (pure.Less a b) h = words-stay_known a b h
@@ -217,8 +253,23 @@ module _ (next : ℕ) (vs : List (Name × Arg)) (known : every (known_value next
   fact-stays_known (pure.NonMember a s) h = member-stays_known a s h
   fact-stays_known (pure.Code a name) h = word-stays_known a h
 
-  pub atom-stays_known : (x : Atom) → known_atom 0 x ≡ true → known_atom next (atom_with (replacing vs) x) ≡ true
+  pub atom-stays_known : (x : Atom) → known_atom 0 x ≡ true → known_atom next (atom_with σ x) ≡ true
   atom-stays_known (atom.Cell a v) h = words-stay_known a v h
   atom-stays_known (atom.Byte a v) h = words-stay_known a v h
   atom-stays_known (atom.Block a n) h = words-stay_known a n h
   atom-stays_known (atom.Pred name args) h = args-stay_known args h
+
+  -- the facts and the atoms of terms that are opened
+  pub facts-opened : (ts : List Term) → every (known_term 0) ts ≡ true → every (known_pure next) (facts_of (terms_with σ ts)) ≡ true
+  facts-opened [] h = refl
+  facts-opened (term.Emp ∷ ts) h = facts-opened ts (both true (every (known_term 0) ts) h).1
+  facts-opened (term.Pure p ∷ ts) h =
+      let b = both (known_pure 0 p) (every (known_term 0) ts) h in and-true _ _ (fact-stays_known p b.0) (facts-opened ts b.1)
+  facts-opened (term.Atom x ∷ ts) h = facts-opened ts (both (known_atom 0 x) (every (known_term 0) ts) h).1
+
+  pub atoms-opened : (ts : List Term) → every (known_term 0) ts ≡ true → every (known_atom next) (atoms_of (terms_with σ ts)) ≡ true
+  atoms-opened [] h = refl
+  atoms-opened (term.Emp ∷ ts) h = atoms-opened ts (both true (every (known_term 0) ts) h).1
+  atoms-opened (term.Pure p ∷ ts) h = atoms-opened ts (both (known_pure 0 p) (every (known_term 0) ts) h).1
+  atoms-opened (term.Atom x ∷ ts) h =
+      let b = both (known_atom 0 x) (every (known_term 0) ts) h in and-true _ _ (atom-stays_known x b.0) (atoms-opened ts b.1)

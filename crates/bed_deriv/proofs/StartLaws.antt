@@ -18,13 +18,13 @@ use Rattle.bed_lang.specs.Instances.{terms_with}
 use Rattle.bed_deriv.specs.declared.state.SymState.{SymState}
 use Rattle.bed_deriv.specs.Fresh.{every, known_pure, known_atom, known_term, known_local, known_value, known_assertion, IsKnownState, unfresh_condition, unfresh_goal}
 use Rattle.bed_deriv.specs.Opening.{facts_of, atoms_of, fresh_value, fresh_values, local_values, first_locals, arguments_of, replacing, opened_alone, started}
-use Rattle.bed_deriv.proofs.KnownLaws.{both, and-true, every-append, known-Var, known_seq-Var, fact-stays_known, atom-stays_known}
+use Rattle.bed_deriv.proofs.KnownLaws.{both, and-true, every-append, known-Var, known_seq-Var, replacing-known, facts-opened, atoms-opened}
 
-below : (n next : ℕ) → n < next → nat_lt n next ≡ true
+pub below : (n next : ℕ) → n < next → nat_lt n next ≡ true
 below n next l = grind arith
 
 -- the locals of a start are known below their count
-locals-known : (xs : List Name) (k n next : ℕ) → n + (length xs - k) ≤ next → every (known_local next) (first_locals xs k n) ≡ true
+pub locals-known : (xs : List Name) (k n next : ℕ) → n + (length xs - k) ≤ next → every (known_local next) (first_locals xs k n) ≡ true
 locals-known [] k n next l = refl
 locals-known (x ∷ xs) (suc k) n next l =
     and-true _ _ (known-Var next (var.Old (bare_name x))) (locals-known xs k n next (omega arith))
@@ -40,29 +40,14 @@ fresh-known : (s : Sort) (x : Name) (n next : ℕ) → n < next → known_value 
 fresh-known sort.Word x n next l = known-Var next (var.Fresh n) ∙ below n next l
 fresh-known sort.Seq x n next l = known_seq-Var next (var.Fresh n) ∙ below n next l
 
-binders-known : (bs : List Bind) (n next : ℕ) → n + length bs ≤ next → every (known_value next) (fresh_values bs n) ≡ true
+pub binders-known : (bs : List Bind) (n next : ℕ) → n + length bs ≤ next → every (known_value next) (fresh_values bs n) ≡ true
 binders-known [] n next l = refl
 binders-known (b ∷ bs) n next l =
     and-true _ _ (fresh-known b.sort b.name n next (omega arith)) (binders-known bs (n + 1) next (omega arith))
 
-module _ (next : ℕ) (vs : List (Name × Arg)) (known : every (known_value next) vs ≡ true) where
-  facts-known : (ts : List Term) → every (known_term 0) ts ≡ true → every (known_pure next) (facts_of (terms_with (replacing vs) ts)) ≡ true
-  facts-known [] h = refl
-  facts-known (term.Emp ∷ ts) h = facts-known ts (both true (every (known_term 0) ts) h).1
-  facts-known (term.Pure p ∷ ts) h =
-      let b = both (known_pure 0 p) (every (known_term 0) ts) h in and-true _ _ (fact-stays_known next vs known p b.0) (facts-known ts b.1)
-  facts-known (term.Atom x ∷ ts) h = facts-known ts (both (known_atom 0 x) (every (known_term 0) ts) h).1
-
-  atoms-known : (ts : List Term) → every (known_term 0) ts ≡ true → every (known_atom next) (atoms_of (terms_with (replacing vs) ts)) ≡ true
-  atoms-known [] h = refl
-  atoms-known (term.Emp ∷ ts) h = atoms-known ts (both true (every (known_term 0) ts) h).1
-  atoms-known (term.Pure p ∷ ts) h = atoms-known ts (both (known_pure 0 p) (every (known_term 0) ts) h).1
-  atoms-known (term.Atom x ∷ ts) h =
-      let b = both (known_atom 0 x) (every (known_term 0) ts) h in and-true _ _ (atom-stays_known next vs known x b.0) (atoms-known ts b.1)
-
 opened-known : (ls : List (Name × Word)) (n : ℕ) (A : Assertion) → every (known_local (n + length A.binders)) ls ≡ true
     → known_assertion 0 A ≡ true → IsKnownState (opened_alone ls n A)
-opened-known ls n A h k = record { locals = h; facts = facts-known next vs known A.terms k; atoms = atoms-known next vs known A.terms k }
+opened-known ls n A h k = record { locals = h; facts = facts-opened next (replacing vs) (replacing-known next vs known) A.terms k; atoms = atoms-opened next (replacing vs) (replacing-known next vs known) A.terms k }
   where
     next : ℕ
     next = n + length A.binders

@@ -81,7 +81,8 @@ append_words a (v ∷ vs) us h front back fits j is more =
     let k = joins_assoc (joins_comm j) (joins_comm is.2) in
     (is.0, k.0, joins_comm k.1, is.3, append_words (wrap (a + 4)) vs us k.0 is.1 back (omega arith) (joins_comm k.2) is.4 (subst (λ b. AreWordsAt b us back) (sym (step_place a (length vs))) more))
 
-meet_twice : (w l r : Option ℕ) (v u : ℕ) → Meet w l r → l ≡ Some v → r ≡ Some u → ⊥
+-- no address is in both parts
+pub meet_twice : (w l r : Option ℕ) (v u : ℕ) → Meet w l r → l ≡ Some v → r ≡ Some u → ⊥
 meet_twice w l r v u m e f = grind arith
 
 -- more words than there are addresses overlap

@@ -12,9 +12,7 @@ use Rattle.bed_lang.specs.declared.logic.Pure.TheVariants as pure
 use Rattle.bed_lang.specs.Values.{Values, variable, value, value_step}
 use Rattle.bed_sat.specs.Facts.{IsTrueFact}
 use Rattle.bed_sat.specs.Comparisons.{named_value, GivesNamed, is_given, word_over, word_over_step, compares, on_both, on_one, variable_result, word_result, word_result_step, pure_result}
-
-some_same : {x y : ℕ} → ◌≡◌ {A = Option ℕ} (Some x) (Some y) → x ≡ y
-some_same e = cc
+use Rattle.bed_sat.proofs.FrameLaws.{some_same}
 
 both_some : (o q : Option ℕ) {A : Type 0} (f : ℕ → ℕ → A) → is_some (on_both o q f) ≡ (is_some o && is_some q)
 both_some None q f = refl

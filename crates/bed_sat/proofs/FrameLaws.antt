@@ -74,10 +74,6 @@ read_words m h x (v ∷ vs) us inc is =
     let first : word_at m x ≡ Some v = word_includes inc x v (word_includes (joins_left is.2) x v is.3.holds) in
     ap₂ (λ a b. a ∷ b) (ap (λ o. unwrap_or o 0) first) (read_words m is.1 (wrap (x + 4)) vs us (includes_trans inc (joins_right is.2)) is.4)
 
-pub words_at_count : (m : Memory) (a n : ℕ) → length (words_at m a n) ≡ n
-words_at_count m a zero = refl
-words_at_count m a (suc n) = ap suc (words_at_count m (wrap (a + 4)) n)
-
 -- what a cell holds is a word
 pub cell_small : (a v : ℕ) (h : Memory) → IsCell a v h → v < 4294967296
 cell_small a v h c =

@@ -20,7 +20,8 @@ use Rattle.bed_sat.specs.Facts.{IsTrueFact}
 use Rattle.bed_sat.specs.Assertions.{WordValue, ListValue, Meaning, arg_value, arg_values, IsTrueAtom, IsTrueTerm, AreTrueTerms}
 use Rattle.bed_lang.specs.Instances.{Instance, values_with, word_with, word_with_step, seq_with, seq_with_step, arg_with, args_with, pure_with, atom_with, term_with, terms_with}
 
-wrap_twice : (xs : List ℕ) → map wrap (map wrap xs) ≡ map wrap xs
+-- items that are taken modulo 2^32 again stay
+pub wrap_twice : (xs : List ℕ) → map wrap (map wrap xs) ≡ map wrap xs
 wrap_twice [] = refl
 wrap_twice (x ∷ xs) = ap₂ (λ a b. a ∷ b) (omega arith) (wrap_twice xs)
 

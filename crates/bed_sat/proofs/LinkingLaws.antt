@@ -5,26 +5,21 @@ use Rattle.bed_lang.specs.declared.module.Operand.{Operand}
 use Rattle.bed_lang.specs.declared.module.Signature.{Signature}
 use Rattle.bed_lang.specs.declared.module.Function.{Function}
 use Rattle.bed_lang.specs.declared.module.Module.{Module}
-use Rattle.bed_lang.specs.declared.statement.Stmt.{Stmt, fold_out-Stmt}
-use Rattle.bed_lang.specs.declared.statement.StmtKind.{StmtKind-F, Return, fold-roll-StmtKind}
-use Rattle.bed_lang.specs.declared.statement.StmtKind.TheVariants.{rolls-Return}
+use Rattle.bed_lang.specs.declared.statement.Stmt.{Stmt}
+use Rattle.bed_lang.specs.declared.statement.StmtKind.{Return}
 use Rattle.bed_lang.specs.Lookups.{first_signature}
 use Rattle.bed_table.specs.Pieces.{Piece, sequence}
 use Rattle.bed_table.specs.CodeTable.{entry, answer}
-use Rattle.bed_table.specs.Code.{kind_row, statement_row, kind_piece, piece, body_piece, params_of, locals_of, function_piece}
+use Rattle.bed_table.specs.Code.{body_piece, params_of, locals_of, function_piece}
 use Rattle.bed_table.specs.Layout.{define, Placed, placed_from, total_size, code_of, code_length}
+use Rattle.bed_table.proofs.CodeLemmas.{piece-kind}
+use Rattle.bed_table.proofs.ReturnLaws.{piece-Return}
 use Rattle.bed_table.proofs.SizeLaws.{code_is_sized}
 use Rattle.bed_sat.specs.Sound.{FunctionAt, IsSound}
 use Rattle.bed_sat.specs.Returns.{ReturnValue, OfNumber, OfArgument, return_code, AreReturns}
 use Rattle.bed_sat.specs.Linking.{with_function, functions_at, loops_at, linked}
 use Rattle.bed_sat.specs.ReturnModules.{OperandSays, IsReturnFunction, AreReturnFunctions}
 use Rattle.bed_sat.proofs.ReturnLaws.{return_program_sound}
-
--- the code of `return a`
-pub piece-Return : (place : ℕ) (a : Operand) → piece (record { at = place; kind = Return a }) ≡ answer a
-piece-Return place a =
-    fold_out-Stmt Piece Piece kind_row statement_row (record { at = place; kind = Return a })
-    ∙ (ap kind_piece (sym (rolls-Return a)) ∙ fold-roll-StmtKind Piece Piece kind_row statement_row (StmtKind-F.Return a))
 
 -- the parameters of the first signature of a name
 params_found : (signatures : List Signature) (name : List ℕ) (S : Signature) → first_signature signatures name ≡ Some S → params_of signatures name ≡ S.params
@@ -52,7 +47,7 @@ module _ (signatures : List Signature) (f : Function) (is : IsReturnFunction sig
   piece_is : function_piece f ≡ sequence (entry ∷ sequence (answer is.returned ∷ []) ∷ [])
   piece_is =
       ap (λ (body : List Stmt). sequence (entry ∷ body_piece body ∷ [])) is.body
-      ∙ ap (λ (p : Piece). sequence (entry ∷ sequence (p ∷ []) ∷ [])) (piece-Return is.place is.returned)
+      ∙ ap (λ (p : Piece). sequence (entry ∷ sequence (p ∷ []) ∷ [])) (piece-kind (record { at = is.place; kind = Return is.returned }) ∙ piece-Return is.returned)
 
   locals_are : locals_of signatures f ≡ is.signature.params
   locals_are =

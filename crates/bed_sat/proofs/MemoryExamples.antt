@@ -1,5 +1,5 @@
 -- The definitions at work on small memories.
-use Rattle.std.proofs.Common.{◌≡◌, ℕ, ◌<◌, Some, [], ◌∷◌, length, codes, refl, sym, ◌∙◌, ap, ap₂, subst, subst₂, arith}
+use Rattle.std.proofs.Common.{◌≡◌, ℕ, Some, [], ◌∷◌, length, codes, refl, sym, ◌∙◌, ap, ap₂, subst, subst₂, arith}
 use Rattle.bed_machine.specs.Memory.{Memory, empty, wrap}
 use Rattle.bed_lang.specs.declared.word.Word.{Number}
 use Rattle.bed_lang.specs.declared.word.Seq.{Nil, Cons}
@@ -53,9 +53,6 @@ forgotten_example is =
     let o = t.3.only 1004 2 there in
     let at : value prelude_world.labels blank (Number 1000) ≡ 1000 = number prelude_world blank 1000 in
     omega (arith, o.1)
-
-four_small : (p q r s : ℕ) → p < 256 → q < 256 → r < 256 → s < 256 → (p < 256) × ((q < 256) × ((r < 256) × ((s < 256) × Unit {0})))
-four_small p q r s a b c d = (a, (b, (c, (d, tt))))
 
 pub segment_example : SegmentExample
 segment_example =

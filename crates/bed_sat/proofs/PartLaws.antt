@@ -1,5 +1,5 @@
 -- Disjoint unions: they commute, associate and cancel.
-use Rattle.std.proofs.Common.{◌≡◌, ℕ, ◌⊎◌, Option, Some, None, List, [], ◌∷◌, inl, inr, refl, subst, arith}
+use Rattle.std.proofs.Common.{◌≡◌, ℕ, ◌⊎◌, Option, Some, None, List, [], ◌∷◌, inl, inr, refl, sym, ◌∙◌, subst, arith}
 use Rattle.bed_machine.specs.Memory.{Memory, empty}
 use Rattle.bed_sat.specs.Parts.{Meet, Joins, JoinsAll, or_else, union, Includes, AreDisjoint}
 
@@ -18,19 +18,11 @@ meet_union (Some v) r d = grind arith
 pub joins_union : {l r : Memory} → AreDisjoint l r → Joins (union l r) l r
 joins_union d = record { at = λ a. meet_union _ _ (d.at a) }
 
-meet_is_union : (w l r : Option ℕ) → Meet w l r → w ≡ or_else l r
-meet_is_union w None r m = grind arith
-meet_is_union w (Some v) r m = grind arith
-
--- the whole is determined by its parts
-pub joins_is_union : {w l r : Memory} → Joins w l r → w ≡ union l r
-joins_is_union j i a = meet_is_union _ _ _ (j.at a) i
-
 meet_cancel : (w l r s : Option ℕ) → Meet w l r → Meet w l s → r ≡ s
 meet_cancel w None r s m n = grind arith
 meet_cancel w (Some v) r s m n = grind arith
 
--- and a part by the whole and the other part
+-- a part is determined by the whole and the other part
 pub joins_cancel : {w l r s : Memory} → Joins w l r → Joins w l s → r ≡ s
 joins_cancel j k i a = meet_cancel _ _ _ _ (j.at a) (k.at a) i
 
@@ -55,6 +47,14 @@ meet_to_nothing w = inr (refl, refl)
 
 pub to_empty : (w : Memory) → Joins w w empty
 to_empty w = record { at = λ a. meet_to_nothing (w a) }
+
+meet_some : (w l r : Option ℕ) (v : ℕ) → Meet w l r → w ≡ Some v → (l ≡ Some v) ⊎ (r ≡ Some v)
+meet_some w l r v (inl p) e = inr (sym p.1 ∙ e)
+meet_some w l r v (inr p) e = inl (sym p.1 ∙ e)
+
+-- a byte of a memory is one of a part
+pub in_a_part : {w l r : Memory} → Joins w l r → (x v : ℕ) → w x ≡ Some v → (l x ≡ Some v) ⊎ (r x ≡ Some v)
+in_a_part j x v e = meet_some _ _ _ v (j.at x) e
 
 meet_left : (w l r : Option ℕ) (v : ℕ) → Meet w l r → l ≡ Some v → w ≡ Some v
 meet_left w l r v m e = grind arith

@@ -12,7 +12,7 @@ use Rattle.bed_lang.specs.declared.word.Word.{Number}
 use Rattle.bed_lang.specs.declared.word.Var.TheVariants as var
 use Rattle.bed_lang.specs.Values.{Named, Answer, set_word, value}
 use Rattle.bed_lang.proofs.ValueLaws.{value-Number, value-Var}
-use Rattle.bed_sat.specs.Parts.{Meet, Joins}
+use Rattle.bed_sat.specs.Parts.{Joins}
 use Rattle.bed_sat.specs.Cells.{IsCell, AreWordsAt, IsBlock}
 use Rattle.bed_sat.specs.Assertions.{blank, Holds}
 use Rattle.bed_sat.specs.Frames.{Enters}
@@ -22,7 +22,7 @@ use Rattle.bed_sat.specs.Sound.{FunctionAt, world_of, IsOutsideOf, IsStart}
 use Rattle.bed_sat.specs.Returns.{OfNumber, OfArgument, IsReturnProgram}
 use Rattle.bed_sat.specs.Examples.{bytes_at, returning, returning_code, returning_program, start_state, no_outside, SevenExample, EightExample, identity_code, two_functions, TwoFunctionsExample, loose, loose_world, loose_call, LooseExample}
 use Rattle.bed_machine.proofs.StepLaws.{Goes, goes_step}
-use Rattle.bed_sat.proofs.PartLaws.{joins_comm, joins_empty, joins_union, to_empty, joins_left, joins_right, includes_trans}
+use Rattle.bed_sat.proofs.PartLaws.{joins_comm, joins_empty, joins_union, to_empty, joins_left, joins_right, includes_trans, in_a_part}
 use Rattle.bed_sat.proofs.RowLaws.{in_row, out_of_row, rows_apart, row_cell}
 use Rattle.bed_sat.proofs.ReturnLaws.{return_program_sound}
 
@@ -256,10 +256,6 @@ enters_none = record {
   pre = block_of 0 (omega arith) empty ([], refl, refl);
 }
 
-meet_some : (m l r : Option ℕ) (v : ℕ) → Meet m l r → m ≡ Some v → (l ≡ Some v) ⊎ (r ≡ Some v)
-meet_some m l r v (inl p) e = inr (sym p.1 ∙ e)
-meet_some m l r v (inr p) e = inl (sym p.1 ∙ e)
-
 no_byte : (h : Memory) (a v : ℕ) → h ≡ empty → h a ≡ Some v → ⊥
 no_byte h a v e is = let n : empty a ≡ Some v = sym (ap (λ k. k a) e) ∙ is in absurd cc
 
@@ -283,14 +279,14 @@ loose_example t honest =
     let c = b.2 in
     let cell = one_word 0x80000000 few.is_frame.0 few.frame few.is_frame.1 few.is_frame.2 in
     let post = few.post.1 in
-    elim (meet_some _ _ _ 0 (a.1.at 4096) there) [
+    elim (in_a_part a.1 4096 0 there) [
       | inl in_frame ↦ let o = cell.1.only 4096 0 in_frame in omega (arith, o.0)
-      | inr in_rest ↦ elim (meet_some _ _ _ 0 (b.1.at 4096) in_rest) [
-        | inl in_heap ↦ elim (meet_some _ _ _ 0 (post.2.at 4096) in_heap) [
+      | inr in_rest ↦ elim (in_a_part b.1 4096 0 in_rest) [
+        | inl in_heap ↦ elim (in_a_part post.2 4096 0 in_heap) [
           | inl x ↦ no_byte _ 4096 0 post.3 x
           | inr x ↦ no_byte _ 4096 0 post.4 x
         ]
-        | inr in_last ↦ elim (meet_some _ _ _ 0 (c.1.at 4096) in_last) [
+        | inr in_last ↦ elim (in_a_part c.1 4096 0 in_last) [
           | inl x ↦ no_byte empty 4096 0 refl x
           | inr x ↦ no_byte _ 4096 0 c.2 x
         ]

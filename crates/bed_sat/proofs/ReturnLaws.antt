@@ -25,7 +25,7 @@ use Rattle.bed_sat.specs.Sound.{FunctionAt, Linked, world_of, IsOutsideOf, IsSta
 use Rattle.bed_sat.specs.Returns.{ReturnValue, OfNumber, OfArgument, fetch, return_code, Says, IsReturnSignature, AreReturns, IsReturnProgram}
 use Rattle.bed_machine.proofs.StepLaws.{Goes, goes_inside, goes_step}
 use Rattle.bed_sat.proofs.PartLaws.{joins_empty, to_empty, joins_left, joins_right, includes_trans, includes_refl}
-use Rattle.bed_sat.proofs.BlockLaws.{word_place, load_slot, put_slot, block_small}
+use Rattle.bed_sat.proofs.BlockLaws.{word_place, load_slot, put_slot}
 use Rattle.bed_sat.proofs.FrameLaws.{parameter_word, get_lt, index_front}
 use Rattle.bed_sat.proofs.LaidLaws.{HasAt, has_front, has_back, begins_at, in_code_at, end_at, positive}
 use Rattle.bed_sat.proofs.RunLaws.{FineFor, fine_run, fine_then, fine_over}
@@ -241,9 +241,6 @@ module _ (p : Linked) (is : IsReturnProgram p) (X : Outside) (out : IsOutsideOf 
   allowed : (u : ReturnValue) → Says f.signature.params here.signature.word u → IsAllowed (fetch u)
   allowed (OfNumber n) s = s.0
   allowed (OfArgument i) s = (λ e. absurd cc, omega arith)
-
-  frame_small : 1 + (length args + length en.area) ≤ 1073741824
-  frame_small = block_small s0.regs.ebp (1 + (length args + length en.area)) en.frame (en.back ∷ (args ++ en.area), omega (arith, length-append args en.area), en.is_frame)
 
   -- the value comes into ECX
   fetched : (u : ReturnValue) → Says f.signature.params here.signature.word u → (next : ℕ) → effect (fetch u) next s1 ≡ Ok (with_register s1 next Ecx (answer_of u args))

@@ -1,5 +1,5 @@
 -- The truth of an assertion depends on no place in a text, nor on declarations that it doesn't use.
-use Rattle.std.proofs.Common.{◌≡◌, ◌≢◌, ℕ, zero, suc, ◌+◌, ◌-◌, ◌*◌, ◌<◌, ◌≤◌, ◌==◌, Bool, true, false, IsTrue, Option, Some, List, [], ◌∷◌, ◌++◌, map, slice_get, Contains, refl, sym, ◌∙◌, ap, ap₂, subst, subst₂}
+use Rattle.std.proofs.Common.{◌≡◌, ◌≢◌, ◌↔◌, ℕ, zero, suc, ◌+◌, ◌-◌, ◌*◌, ◌<◌, ◌≤◌, ◌==◌, Bool, true, false, IsTrue, Option, Some, List, [], ◌∷◌, ◌++◌, map, slice_get, Contains, refl, sym, ◌∙◌, ap, ap₂, subst, subst₂}
 use Rattle.std.specs.Cmp.{unsigned_Decides}
 use Rattle.std.specs.Cmp.Lexicographic.{pointwise}
 use Rattle.bed_machine.specs.Memory.{Memory}
@@ -143,75 +143,82 @@ module _ (codes : ℕ → Option (List ℕ)) (labels : List ℕ → ℕ) where
     args_same [] (y ∷ ys) is = no is
     args_same (x ∷ xs) [] is = no is
 
-    pub fact_same : (φ ψ : Pure) → IsTrue (same_pure φ ψ) → IsTrueFact codes labels ν φ → IsTrueFact codes labels ν ψ
-    fact_same (pure.Equal a b) (pure.Equal c d) is t = let h = both (same_word a c) _ is in subst₂ (λ m n. m ≡ n) (word_same a c h.0) (word_same b d h.1) t
-    fact_same (pure.Unequal a b) (pure.Unequal c d) is t = let h = both (same_word a c) _ is in subst₂ (λ m n. m ≢ n) (word_same a c h.0) (word_same b d h.1) t
-    fact_same (pure.Less a b) (pure.Less c d) is t = let h = both (same_word a c) _ is in subst₂ (λ m n. m < n) (word_same a c h.0) (word_same b d h.1) t
-    fact_same (pure.AtMost a b) (pure.AtMost c d) is t = let h = both (same_word a c) _ is in subst₂ (λ m n. m ≤ n) (word_same a c h.0) (word_same b d h.1) t
-    fact_same (pure.Same r s) (pure.Same u v) is t = let h = both (same_seq r u) _ is in subst₂ (λ m n. m ≡ n) (seq_same r u h.0) (seq_same s v h.1) t
-    fact_same (pure.Member a s) (pure.Member b u) is t = let h = both (same_word a b) _ is in subst₂ (λ m n. Contains n m) (word_same a b h.0) (seq_same s u h.1) t
-    fact_same (pure.NonMember a s) (pure.NonMember b u) is t = let h = both (same_word a b) _ is in subst₂ (λ m n. Contains n m → ⊥) (word_same a b h.0) (seq_same s u h.1) t
-    fact_same (pure.Code a x) (pure.Code b y) is t = let h = both (same_word a b) _ is in subst₂ (λ m n. codes m ≡ Some n) (word_same a b h.0) (bytes_eq_is x.bytes y.bytes h.1) t
-    fact_same (pure.Equal a b) _ is t = no is
-    fact_same (pure.Unequal a b) _ is t = no is
-    fact_same (pure.Less a b) _ is t = no is
-    fact_same (pure.AtMost a b) _ is t = no is
-    fact_same (pure.Same r s) _ is t = no is
-    fact_same (pure.Member a s) _ is t = no is
-    fact_same (pure.NonMember a s) _ is t = no is
-    fact_same (pure.Code a x) _ is t = no is
+    both_ways : {A B : Type 0} (R : A → B → Type 0) {a c : A} {b d : B} → a ≡ c → b ≡ d → R a b ↔ R c d
+    both_ways R p q = (subst₂ R p q, subst₂ R (sym p) (sym q))
 
-    atom_same : (M : Meaning) (a b : Atom) (h : Memory) → IsTrue (same_atom a b) → IsTrueAtom codes labels M ν a h → IsTrueAtom codes labels M ν b h
-    atom_same M (atom.Cell a b) (atom.Cell c d) m is t = let h = both (same_word a c) _ is in subst₂ (λ x y. IsCell x y m) (word_same a c h.0) (word_same b d h.1) t
-    atom_same M (atom.Byte a b) (atom.Byte c d) m is t = let h = both (same_word a c) _ is in subst₂ (λ x y. IsByte x y m) (word_same a c h.0) (word_same b d h.1) t
-    atom_same M (atom.Block a b) (atom.Block c d) m is t = let h = both (same_word a c) _ is in subst₂ (λ x y. IsBlock x y m) (word_same a c h.0) (word_same b d h.1) t
-    atom_same M (atom.Pred x xs) (atom.Pred y ys) m is t = let h = both (same_name x y) _ is in subst₂ (λ n vs. M n vs m) (bytes_eq_is x.bytes y.bytes h.0) (args_same xs ys h.1) t
-    atom_same M (atom.Cell a b) _ m is t = no is
-    atom_same M (atom.Byte a b) _ m is t = no is
-    atom_same M (atom.Block a b) _ m is t = no is
-    atom_same M (atom.Pred x xs) _ m is t = no is
+    fact_same : (φ ψ : Pure) → IsTrue (same_pure φ ψ) → IsTrueFact codes labels ν φ ↔ IsTrueFact codes labels ν ψ
+    fact_same (pure.Equal a b) (pure.Equal c d) is = let h = both (same_word a c) _ is in both_ways (λ m n. m ≡ n) (word_same a c h.0) (word_same b d h.1)
+    fact_same (pure.Unequal a b) (pure.Unequal c d) is = let h = both (same_word a c) _ is in both_ways (λ m n. m ≢ n) (word_same a c h.0) (word_same b d h.1)
+    fact_same (pure.Less a b) (pure.Less c d) is = let h = both (same_word a c) _ is in both_ways (λ m n. m < n) (word_same a c h.0) (word_same b d h.1)
+    fact_same (pure.AtMost a b) (pure.AtMost c d) is = let h = both (same_word a c) _ is in both_ways (λ m n. m ≤ n) (word_same a c h.0) (word_same b d h.1)
+    fact_same (pure.Same r s) (pure.Same u v) is = let h = both (same_seq r u) _ is in both_ways (λ m n. m ≡ n) (seq_same r u h.0) (seq_same s v h.1)
+    fact_same (pure.Member a s) (pure.Member b u) is = let h = both (same_word a b) _ is in both_ways (λ m n. Contains n m) (word_same a b h.0) (seq_same s u h.1)
+    fact_same (pure.NonMember a s) (pure.NonMember b u) is = let h = both (same_word a b) _ is in both_ways (λ m n. Contains n m → ⊥) (word_same a b h.0) (seq_same s u h.1)
+    fact_same (pure.Code a x) (pure.Code b y) is = let h = both (same_word a b) _ is in both_ways (λ m n. codes m ≡ Some n) (word_same a b h.0) (bytes_eq_is x.bytes y.bytes h.1)
+    fact_same (pure.Equal a b) _ is = no is
+    fact_same (pure.Unequal a b) _ is = no is
+    fact_same (pure.Less a b) _ is = no is
+    fact_same (pure.AtMost a b) _ is = no is
+    fact_same (pure.Same r s) _ is = no is
+    fact_same (pure.Member a s) _ is = no is
+    fact_same (pure.NonMember a s) _ is = no is
+    fact_same (pure.Code a x) _ is = no is
 
-    term_same : (M : Meaning) (a b : Term) (h : Memory) → IsTrue (same_term a b) → IsTrueTerm codes labels M ν a h → IsTrueTerm codes labels M ν b h
-    term_same M term.Emp term.Emp m is t = t
-    term_same M (term.Pure φ) (term.Pure ψ) m is t = (t.0, fact_same φ ψ is t.1)
-    term_same M (term.Atom a) (term.Atom b) m is t = atom_same M a b m is t
-    term_same M term.Emp _ m is t = no is
-    term_same M (term.Pure φ) _ m is t = no is
-    term_same M (term.Atom a) _ m is t = no is
+    atom_same : (M : Meaning) (a b : Atom) (h : Memory) → IsTrue (same_atom a b) → IsTrueAtom codes labels M ν a h ↔ IsTrueAtom codes labels M ν b h
+    atom_same M (atom.Cell a b) (atom.Cell c d) m is = let h = both (same_word a c) _ is in both_ways (λ x y. IsCell x y m) (word_same a c h.0) (word_same b d h.1)
+    atom_same M (atom.Byte a b) (atom.Byte c d) m is = let h = both (same_word a c) _ is in both_ways (λ x y. IsByte x y m) (word_same a c h.0) (word_same b d h.1)
+    atom_same M (atom.Block a b) (atom.Block c d) m is = let h = both (same_word a c) _ is in both_ways (λ x y. IsBlock x y m) (word_same a c h.0) (word_same b d h.1)
+    atom_same M (atom.Pred x xs) (atom.Pred y ys) m is = let h = both (same_name x y) _ is in both_ways (λ n vs. M n vs m) (bytes_eq_is x.bytes y.bytes h.0) (args_same xs ys h.1)
+    atom_same M (atom.Cell a b) _ m is = no is
+    atom_same M (atom.Byte a b) _ m is = no is
+    atom_same M (atom.Block a b) _ m is = no is
+    atom_same M (atom.Pred x xs) _ m is = no is
 
-    terms_same : (M : Meaning) (ts us : List Term) (h : Memory) → IsTrue (pointwise same_term ts us) → AreTrueTerms codes labels M ν ts h → AreTrueTerms codes labels M ν us h
-    terms_same M [] [] m is t = t
-    terms_same M (x ∷ ts) (y ∷ us) m is t =
-        let h = both (same_term x y) _ is in (t.0, t.1, t.2, term_same M x y t.0 h.0 t.3, terms_same M ts us t.1 h.1 t.4)
-    terms_same M [] (y ∷ us) m is t = no is
-    terms_same M (x ∷ ts) [] m is t = no is
+    term_same : (M : Meaning) (a b : Term) (h : Memory) → IsTrue (same_term a b) → IsTrueTerm codes labels M ν a h ↔ IsTrueTerm codes labels M ν b h
+    term_same M term.Emp term.Emp m is = (λ t. t, λ t. t)
+    term_same M (term.Pure φ) (term.Pure ψ) m is = let f = fact_same φ ψ is in (λ t. (t.0, f.0 t.1), λ t. (t.0, f.1 t.1))
+    term_same M (term.Atom a) (term.Atom b) m is = atom_same M a b m is
+    term_same M term.Emp _ m is = no is
+    term_same M (term.Pure φ) _ m is = no is
+    term_same M (term.Atom a) _ m is = no is
 
-  some_value_same : (s : Sort) (x : List ℕ) (ν : Values) (P Q : Values → Type 0) → ((μ : Values) → P μ → Q μ) → ForSomeValue s x ν P → ForSomeValue s x ν Q
-  some_value_same sort.Word x ν P Q f h = (h.0, f _ h.1)
-  some_value_same sort.Seq x ν P Q f h = (h.0, f _ h.1)
+    terms_same : (M : Meaning) (ts us : List Term) (h : Memory) → IsTrue (pointwise same_term ts us) → AreTrueTerms codes labels M ν ts h ↔ AreTrueTerms codes labels M ν us h
+    terms_same M [] [] m is = (λ t. t, λ t. t)
+    terms_same M (x ∷ ts) (y ∷ us) m is =
+        let h = both (same_term x y) _ is in (
+          λ t. (t.0, t.1, t.2, (term_same M x y t.0 h.0).0 t.3, (terms_same M ts us t.1 h.1).0 t.4),
+          λ t. (t.0, t.1, t.2, (term_same M x y t.0 h.0).1 t.3, (terms_same M ts us t.1 h.1).1 t.4),
+        )
+    terms_same M [] (y ∷ us) m is = no is
+    terms_same M (x ∷ ts) [] m is = no is
+
+  some_value_same : (s : Sort) (x : List ℕ) (ν : Values) (P Q : Values → Type 0) → ((μ : Values) → P μ ↔ Q μ) → ForSomeValue s x ν P ↔ ForSomeValue s x ν Q
+  some_value_same sort.Word x ν P Q f = (λ h. (h.0, (f _).0 h.1), λ h. (h.0, (f _).1 h.1))
+  some_value_same sort.Seq x ν P Q f = (λ h. (h.0, (f _).0 h.1), λ h. (h.0, (f _).1 h.1))
 
   bound_same : (M : Meaning) (bs cs : List Bind) (ts us : List Term) (h : Memory) (ν : Values) → IsTrue (pointwise same_bind bs cs) → IsTrue (pointwise same_term ts us)
-      → ForSomeValues bs ν (λ μ. AreTrueTerms codes labels M μ ts h) → ForSomeValues cs ν (λ μ. AreTrueTerms codes labels M μ us h)
-  bound_same M [] [] ts us h ν bi is t = terms_same ν M ts us h is t
-  bound_same M (b ∷ bs) (c ∷ cs) ts us h ν bi is t =
+      → ForSomeValues bs ν (λ μ. AreTrueTerms codes labels M μ ts h) ↔ ForSomeValues cs ν (λ μ. AreTrueTerms codes labels M μ us h)
+  bound_same M [] [] ts us h ν bi is = terms_same ν M ts us h is
+  bound_same M (b ∷ bs) (c ∷ cs) ts us h ν bi is =
       let g = both (same_bind b c) _ bi in
       let k = both (same_name b.name c.name) _ g.0 in
-      subst₂ (λ s x. ForSomeValue s x ν (λ μ. ForSomeValues cs μ (λ κ. AreTrueTerms codes labels M κ us h)))
+      subst₂ (λ s x. ForSomeValue b.sort b.name.bytes ν (λ μ. ForSomeValues bs μ (λ κ. AreTrueTerms codes labels M κ ts h)) ↔ ForSomeValue s x ν (λ μ. ForSomeValues cs μ (λ κ. AreTrueTerms codes labels M κ us h)))
       (sort_same b.sort c.sort k.1) (bytes_eq_is b.name.bytes c.name.bytes k.0)
-      (some_value_same b.sort b.name.bytes ν _ _ (λ μ. bound_same M bs cs ts us h μ g.1 is) t)
-  bound_same M [] (c ∷ cs) ts us h ν bi is t = no bi
-  bound_same M (b ∷ bs) [] ts us h ν bi is t = no bi
+      (some_value_same b.sort b.name.bytes ν _ _ (λ μ. bound_same M bs cs ts us h μ g.1 is))
+  bound_same M [] (c ∷ cs) ts us h ν bi is = no bi
+  bound_same M (b ∷ bs) [] ts us h ν bi is = no bi
 
   -- the same assertion, places aside, is true of the same memories
-  pub true_same : (M : Meaning) (ν : Values) (A B : Assertion) (h : Memory) → IsTrue (same_assertion A B) → IsTrueWith codes labels M ν A h → IsTrueWith codes labels M ν B h
-  true_same M ν A B h is t =
+  pub true_same : (M : Meaning) (ν : Values) (A B : Assertion) (h : Memory) → IsTrue (same_assertion A B) → IsTrueWith codes labels M ν A h ↔ IsTrueWith codes labels M ν B h
+  true_same M ν A B h is =
       let g = both (pointwise same_bind A.binders B.binders) _ is in
-      bound_same M A.binders B.binders A.terms B.terms h ν g.0 g.1 t
+      bound_same M A.binders B.binders A.terms B.terms h ν g.0 g.1
 
 pub holds_same : (w : World) (ν : Values) (A B : Assertion) (h : Memory) → IsTrue (same_assertion A B) → Holds w ν h A → Holds w ν h B
-holds_same w ν A B h is t = (t.0, true_same w.codes w.labels (meaning w t.0) ν A B h is t.1)
+holds_same w ν A B h is t = (t.0, (true_same w.codes w.labels (meaning w t.0) ν A B h is).0 t.1)
 
-params_same : (ν : Values) (bs cs : List Bind) (vs : List ArgValue) → IsTrue (pointwise same_bind bs cs) → set_params ν bs vs ≡ set_params ν cs vs
+-- parameters of the same names are set alike
+pub params_same : (ν : Values) (bs cs : List Bind) (vs : List ArgValue) → IsTrue (pointwise same_bind bs cs) → set_params ν bs vs ≡ set_params ν cs vs
 params_same ν [] [] vs is = refl
 params_same ν (b ∷ bs) (c ∷ cs) [] is = refl
 params_same ν (b ∷ bs) (c ∷ cs) (WordValue v ∷ vs) is =
@@ -225,7 +232,8 @@ params_same ν (b ∷ bs) (c ∷ cs) (ListValue v ∷ vs) is =
 params_same ν [] (c ∷ cs) vs is = no is
 params_same ν (b ∷ bs) [] vs is = no is
 
-case_same : (As Bs : List Assertion) (n : ℕ) (A : Assertion) → IsTrue (pointwise same_assertion As Bs) → slice_get As n ≡ Some A → (B : Assertion) × (slice_get Bs n ≡ Some B) × IsTrue (same_assertion A B)
+-- the case at a place is the same as the other's
+pub case_same : (As Bs : List Assertion) (n : ℕ) (A : Assertion) → IsTrue (pointwise same_assertion As Bs) → slice_get As n ≡ Some A → (B : Assertion) × (slice_get Bs n ≡ Some B) × IsTrue (same_assertion A B)
 case_same [] Bs n A is at = absurd cc
 case_same (C ∷ As) [] n A is at = no is
 case_same (C ∷ As) (D ∷ Bs) zero A is at =
@@ -254,7 +262,7 @@ module _ (few more : Decls) (x : Extends few more) (codes : ℕ → Option (List
         c.0,
         c.1,
         subst (λ μ. IsTrueWith codes labels (meaning all k) μ c.0 h) (params_same blank is.0.params e.0.params vs q.0)
-            (true_same codes labels (meaning all k) (set_params blank is.0.params vs) is.3 c.0 h c.2
+            ((true_same codes labels (meaning all k) (set_params blank is.0.params vs) is.3 c.0 h c.2).0
             (true_more codes labels _ _ (meaning_extends k) _ is.3 h is.5)),
       )
 

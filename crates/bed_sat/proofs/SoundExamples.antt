@@ -19,7 +19,7 @@ use Rattle.bed_lang.specs.declared.logic.Assertion.{Assertion}
 use Rattle.bed_lang.specs.Prelude.{name, word}
 use Rattle.bed_lang.specs.Values.{Values, value}
 use Rattle.bed_lang.proofs.ValueLaws.{value-Number, value-Var}
-use Rattle.bed_sat.specs.Parts.{Meet, JoinsAll, Includes}
+use Rattle.bed_sat.specs.Parts.{JoinsAll, Includes}
 use Rattle.bed_sat.specs.Cells.{IsCell, AreWordsAt}
 use Rattle.bed_sat.specs.Assertions.{World, blank, Holds}
 use Rattle.bed_sat.specs.Frames.{set_words, arguments, signature_of, Enters, Meets, IsAtLoop}
@@ -32,6 +32,7 @@ use Rattle.bed_sat.proofs.PartLaws.{joins_comm, to_empty, joins_left, joins_righ
 use Rattle.bed_sat.proofs.RowLaws.{AreBytes, in_row, out_of_row, joins_rows, row_cell}
 use Rattle.bed_sat.proofs.RunLaws.{FineFor, fine_run, fine_goes}
 use Rattle.bed_sat.proofs.ValidExamples.{fact_is, fact_holds}
+use Rattle.bed_sat.proofs.BlockLaws.{meet_twice}
 
 -- the one element of a list
 pub only : {A : Type 0} (x y : A) → Contains (x ∷ []) y → x ≡ y
@@ -195,9 +196,6 @@ wrong_invariant_example sound =
 
 -- ---- a cell of the starter's
 
-meet_both : (m l r : Option ℕ) (u v : ℕ) → Meet m l r → l ≡ Some u → r ≡ Some v → ⊥
-meet_both m l r u v meet e f = grind arith
-
 -- a part that is the starter's cell stands beside no rest that has it
 no_cell : (w : World) (ν : Values) (m frame heap rest : Memory) → JoinsAll m (frame ∷ heap ∷ rest ∷ []) → Includes rest (starters zero_word) → Holds w ν heap starters_cell → ⊥
 no_cell w ν m frame heap rest parts keeps holds =
@@ -207,7 +205,7 @@ no_cell w ν m frame heap rest parts keeps holds =
     let f = four_bytes t.0 0x80000008 0 cell.holds in
     let there = (joins_left t.2).at _ _ f.at_low in
     let kept = (joins_left parts.2.2.1).at 0x80000008 0 (keeps.at 0x80000008 0 refl) in
-    meet_both _ _ _ f.low 0 (parts.2.1.at 0x80000008) there kept
+    meet_twice _ _ _ f.low 0 (parts.2.1.at 0x80000008) there kept
 
 pub starters_cell_example : StartersCellExample
 starters_cell_example w = (

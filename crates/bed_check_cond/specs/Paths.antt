@@ -1,6 +1,6 @@
--- What is owed of the two rules that go along a condition's path, in the order of the table of rules, and of a whole derivation: these
--- are statements, which the checker of conditions will have to prove.
-use Rattle.std.specs.Prelude.{◌≡◌, ◌≢◌, ℕ, ◌<◌, IsTrue, List, [], ◌∷◌, Contains, Option, Ok}
+-- What the rules promise of the rest of a condition, and of a whole one: a state stands for the values and the memory that the path has
+-- come to, and the rest is closed where its actions fail nowhere from there and lead to its goal.
+use Rattle.std.specs.Prelude.{◌≡◌, ℕ, ◌<◌, ◌||◌, Bool, true, false, IsTrue, List, [], ◌∷◌, Option, Ok}
 use Rattle.bed_machine.specs.Memory.{Memory}
 use Rattle.bed_lang.specs.declared.word.Name.{Name}
 use Rattle.bed_lang.specs.declared.word.Word.{Word}
@@ -8,7 +8,7 @@ use Rattle.bed_lang.specs.declared.logic.Pure.{Pure}
 use Rattle.bed_lang.specs.declared.module.Signature.{Signature}
 use Rattle.bed_lang.specs.declared.condition.Decls.{Decls}
 use Rattle.bed_lang.specs.declared.condition.Cond.{Cond}
-use Rattle.bed_lang.specs.Values.{wrap, Values, Variable, Named, Fresh, value}
+use Rattle.bed_lang.specs.Values.{wrap, Values, Variable, Named, Fresh, same_variable, value}
 use Rattle.bed_lang.specs.Lookups.{function_signature}
 use Rattle.bed_sat.specs.Assertions.{World}
 use Rattle.bed_sat.specs.Valid.{After, GoalHolds, LabelsFit, IsValid}
@@ -20,13 +20,26 @@ use Rattle.bed_deriv.specs.Steps.{Rest, Onward, step, finish, onward_of}
 use Rattle.bed_deriv.specs.Derives.{Derives}
 use Rattle.bed_check_pure.specs.States.{StateHolds, AreTrueFacts}
 
--- Values of a path beside those of a state: each local has the value of its term, and every other variable, but for fresh ones, the
--- state's.
+-- the variable is one of these locals, and it is a fresh variable
+abbrev pub is_local : List (Name × Word) → Variable → Bool
+is_local [] y = false
+is_local (l ∷ ls) y = same_variable y (Named l.0.bytes) || is_local ls y
+
+abbrev pub is_fresh : Variable → Bool
+is_fresh (Fresh n) = true
+is_fresh _ = false
+
+-- each local has the value of its term
+abbrev pub AreRead : (List ℕ → ℕ) → List (Name × Word) → Values → Values → Type 0
+AreRead labels [] ν μ = Unit {0}
+AreRead labels (l ∷ ls) ν μ = (wrap (μ.words (Named l.0.bytes)) ≡ value labels ν l.1) × AreRead labels ls ν μ
+
+-- The values μ of a path beside the values ν of a state: each local has the value of its term, and every other variable, but for fresh
+-- ones, is the state's.
 pub record ReadsLocals (labels : List ℕ → ℕ) (ls : List (Name × Word)) (ν μ : Values) : Type 0 where
-  pub locals : (x : Name) (t : Word) → Contains ls (x, t) → wrap (μ.words (Named x.bytes)) ≡ value labels ν t
-  pub others : (y : Variable) → ((n : ℕ) → y ≢ Fresh n) → ((x : Name) (t : Word) → Contains ls (x, t) → y ≢ Named x.bytes)
-      → μ.words y ≡ ν.words y
-  pub lists : (y : Variable) → ((n : ℕ) → y ≢ Fresh n) → μ.lists y ≡ ν.lists y
+  pub locals : AreRead labels ls ν μ
+  pub others : (y : Variable) → is_fresh y ≡ false → is_local ls y ≡ false → μ.words y ≡ ν.words y
+  pub lists : (y : Variable) → is_fresh y ≡ false → μ.lists y ≡ ν.lists y
 
 module _ (w : World) where
   -- facts are true wherever a state holds
@@ -47,13 +60,14 @@ module _ (w : World) where
 abbrev pub StepCloses : Type 0
 StepCloses =
     (w : World) (S : Option Signature) (r : Rest) (args : List DArg) (n : ℕ) (o : Onward) → onward_of (step w.decls r args n) ≡ Ok o
-    → LabelsFit w → AreUnfresh w.decls → IsKnownState r.state → AreProved w r.state o.goals → AllClose w S o.rests → Closes w S r
+    → LabelsFit w → AreUnfresh w.decls → IsKnownState r.state → IsTrue (unfresh_goal r.goal)
+    → AreProved w r.state o.goals → AllClose w S o.rests → Closes w S r
 
 -- an end closes a rest where its facts are proved
 abbrev pub FinishCloses : Type 0
 FinishCloses =
     (w : World) (function : Name) (r : Rest) (args : List DArg) (n : ℕ) (o : Onward)
-    → onward_of (finish w.decls function r args n) ≡ Ok o → LabelsFit w → AreUnfresh w.decls → IsTrue (unfresh_goal r.goal)
+    → onward_of (finish w.decls function r args n) ≡ Ok o → AreUnfresh w.decls → IsKnownState r.state → IsTrue (unfresh_goal r.goal)
     → AreProved w r.state o.goals → Closes w (function_signature w.decls function) r
 
 -- a condition that has a derivation is valid

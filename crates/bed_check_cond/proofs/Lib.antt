@@ -1,0 +1,17 @@
+pub mod ValueLaws
+pub mod ReplacingLaws
+pub mod ReadLaws
+pub mod OpeningLaws
+pub mod DeclaredLaws
+pub mod EndLaws
+pub mod ComputeLaws
+pub mod StoreLaws
+pub mod ActionLaws
+pub mod KnownLaws
+pub mod CallLaws
+pub mod MoreLaws
+pub mod GrownLaws
+pub mod FormKnownLaws
+pub mod RestLaws
+pub mod BeginLaws
+pub mod DerivedLaws

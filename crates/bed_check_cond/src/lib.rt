@@ -1,0 +1,4 @@
+//! The checker of whole conditions.
+#![tactic(auto)]
+
+pub mod laws;
