@@ -9,4 +9,6 @@ mod matches;
 #[cfg(test)]
 mod nodes;
 #[cfg(test)]
+mod starts;
+#[cfg(test)]
 mod trees;

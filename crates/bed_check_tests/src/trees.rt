@@ -25,7 +25,7 @@ pub(crate) fn less(alloc: Global, a: u8, b: u8) -> Result<Pure, AllocError> {
     Ok(Pure::Less(word(alloc, a)?, word(alloc, b)?))
 }
 
-fn at_most(alloc: Global, a: u8, b: u8) -> Result<Pure, AllocError> {
+pub(crate) fn at_most(alloc: Global, a: u8, b: u8) -> Result<Pure, AllocError> {
     Ok(Pure::AtMost(word(alloc, a)?, word(alloc, b)?))
 }
 
