@@ -94,6 +94,7 @@ fn checked(alloc: Global, decls: &Decls, m: &Module) -> Result<Module, NameError
 pub fn scope(alloc: Global, m: Module) -> Result<Scoped, NameError>
     ensures ok { IfOk result (λ s. (refusal (faults m) ≡ None) × (s.module ≡ resolved m) × (s.decls ≡ declarations_of (resolved m))) }
     ensures limits { OnOk result (KeepsLimits m) }
+    ensures beyond { (KeepsLimits m → ⊥) → result ≡ Err NameError.Memory }
     ensures refused { IfErr result (λ e. e ≢ NameError.Memory → refusal (faults m) ≡ Some e) }
 {
     if !keeps_limits(&m) {
