@@ -20,11 +20,12 @@ use Rattle.bed_deriv.specs.Steps.{Rest, Onward, step, finish, onward_of}
 use Rattle.bed_deriv.specs.Derives.{Derives}
 use Rattle.bed_check_pure.specs.States.{StateHolds, AreTrueFacts}
 
--- the variable is one of these locals, and it is a fresh variable
+-- the variable is one of these locals
 abbrev pub is_local : List (Name × Word) → Variable → Bool
 is_local [] y = false
 is_local (l ∷ ls) y = same_variable y (Named l.0.bytes) || is_local ls y
 
+-- the variable is a fresh one
 abbrev pub is_fresh : Variable → Bool
 is_fresh (Fresh n) = true
 is_fresh _ = false
