@@ -173,7 +173,7 @@ module _ (words : List (List ℕ)) (job : Job) (asked : Asks words job) (old new
     job_caused Done h = (is_due Done h.0, (h.1.modules, h.1.read, h.1.written))
     job_caused (WriteFault false) h = (is_due Done h.0, h.1)
     job_caused (WriteFault true) h = h
-    job_caused ReadFault h = (asked, h.0, h.1)
+    job_caused ReadFault h = (asked, h.0, h.1, h.2)
     job_caused Memory h = tt
     job_caused (No condition rejected) h = is_due (No condition rejected) h
     job_caused (Usage word) h = is_due (Usage word) h

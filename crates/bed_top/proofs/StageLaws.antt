@@ -24,6 +24,7 @@ use Rattle.bed_words.specs.Limits.{limit_of}
 use Rattle.bed_words.specs.Usage.{IsUsage, PassesLimit}
 use Rattle.bed_top.specs.Causes.{most_text, most_functions, read_status, name_status, first_misnamed, or_later, unbuilt_word, words_status, word_at, function_count, Asks, AreModules, FirstRefused, unbuilt_file, broken_status, Building, not_all_built, one_built, Scoping, not_scoped, all_scoped, too_many, few_enough, Reading, not_read, all_read}
 use Rattle.bed_top.specs.Outcomes.{OrMemory, IsRefused, IsRefusedFrom, AreCut, IsMisnamed, LinksOne, LinksOnly, LinksTexts, ReadsTexts, texts_of, modules_of}
+use Rattle.bed_top.specs.Files.{IsAbsent}
 use Rattle.bed_top.specs.Returns.{module_is_built, broken_condition}
 use Rattle.bed_top.specs.Work.{Ends}
 use Rattle.bed_top.specs.declared.lines.Numbers.{Numbers}
@@ -113,6 +114,21 @@ first_is_there : (held : List ℕ → Option (List ℕ)) (names : List (List ℕ
     → All (λ file. IsSome (held file)) names → IsSome (held name)
 first_is_there held names name some is all = subst (λ n. IsSome (held n)) (sym is) (all 0 name (omega (arith, some)))
 
+-- the first of some names, by its number
+first_named : (names : List (List ℕ)) (name : List ℕ) → 1 ≤ length names → name ≡ get_or names 0 name → word_at names 0 ≡ name
+first_named [] name some is = absurd (omega (arith, some))
+first_named (n ∷ ns) name some is = sym is
+
+-- where calm files fail in the read of a file, it is absent
+absent_file : (old new : FilesState) (name : List ℕ) → (IsTrue old.calm → IsSome (old.held name) → new.read_faults ≡ old.read_faults)
+    → Rose old.read_faults new.read_faults → IsAbsent old new name
+absent_file old new name stays rose told calm few = by_contents (old.held name) refl
+  where
+    by_contents : (o : Option (List ℕ)) → old.held name ≡ o → o ≡ None
+    by_contents None is = refl
+    by_contents (Some bytes) is =
+        let same : new.read_faults ≡ old.read_faults = stays calm (subst IsSome (sym is) refl) in absurd (omega (arith, same, rose, few))
+
 -- the read of the first file failed, or there was no room for its text
 pub reads_none : {T U : Type 0} (old new : FilesState) (names : List (List ℕ)) (name : List ℕ) (text : List ℕ) (e : FileRefusal)
     (read : Result T FileRefusal) → 1 ≤ length names → name ≡ get_or names 0 name
@@ -124,6 +140,8 @@ reads_none old new names name text e read some is same r = record {
   told = tt;
   fewer = some;
   failed = λ f. let is_failed : e ≡ Failed = cc in r.failed (same is_failed);
+  absent = λ f. let is_failed : e ≡ Failed = cc in
+      subst (IsAbsent old new) (sym (first_named names name some is)) (absent_file old new name r.stays_calm (r.failed (same is_failed)));
   writes_stay = r.writes_stay;
   stays_calm = λ told calm all. r.stays_calm calm (first_is_there old.held names name some is all);
 }
@@ -165,6 +183,8 @@ reads_more old mid new names more name text read result some is ok r h =
       told = on_ok_weaker result (λ t told. both told (t (r.goes_on.tells ∙ told))) h.told;
       fewer = on_err_weaker result (λ e. omega (arith, e)) h.fewer;
       failed = λ f. later_fault old.read_faults mid.read_faults new.read_faults r.goes_on.reads (h.failed f);
+      absent = λ f told calm few.
+          sym (r.same told (word_at rest (length more))) ∙ h.absent f (r.goes_on.tells ∙ told) (r.goes_on.calm ∙ calm) few;
       writes_stay = h.writes_stay ∙ r.writes_stay;
       stays_calm = λ told calm all. h.stays_calm (r.goes_on.tells ∙ told) (r.goes_on.calm ∙ calm)
           (λ k d lt. subst IsSome (sym (r.same told (get_or rest k d))) (all (suc k) d (omega (arith, lt)))) ∙ r.stays_calm calm (all 0 name (omega arith));

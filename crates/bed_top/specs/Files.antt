@@ -1,5 +1,5 @@
 -- What a link does to the files.
-use Rattle.std.specs.Prelude.{◌≡◌, ℕ, IsTrue, IsSome, List, [], length, map, All, unwrap_or}
+use Rattle.std.specs.Prelude.{◌≡◌, ℕ, ◌-◌, ◌^◌, ◌<◌, IsTrue, IsSome, None, List, [], length, map, All, unwrap_or}
 use Rattle.bed_io.specs.Files.{FilesState, SameFiles, SameFilesBut, bytes_of, up_to}
 use Rattle.bed_words.specs.declared.command.Job.{Job}
 use Rattle.bed_top.specs.Causes.{most_text, Asks}
@@ -15,6 +15,10 @@ out_file job = unwrap_or job.out []
 pub record HasRead (job : Job) (texts : List (List ℕ)) (old : FilesState) : Type 0 where
   pub each : length texts ≡ length job.modules
   pub told : IsTrue old.tells → texts ≡ map (λ file. up_to most_text (bytes_of old file)) job.modules
+
+-- of calm files, one whose read fails is absent, unless the count of such faults stands at its end
+abbrev pub IsAbsent : FilesState → FilesState → List ℕ → Type 0
+IsAbsent old new file = IsTrue old.tells → IsTrue old.calm → new.read_faults < 2 ^ 64 - 1 → old.held file ≡ None
 
 -- every file is as before but the image's, where the words ask for a link
 pub record LeavesBut (words : List (List ℕ)) (old new : FilesState) : Type 0 where

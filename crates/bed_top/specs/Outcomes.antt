@@ -18,7 +18,7 @@ use Rattle.bed_words.specs.declared.command.Command.{Command}
 use Rattle.bed_words.specs.Commands.{IsCommand}
 use Rattle.bed_words.specs.Limits.{limit_of}
 use Rattle.bed_words.specs.Usage.{IsUsage, PassesLimit}
-use Rattle.bed_top.specs.Files.{out_file, HasRead, JobLeaves, SameCounts}
+use Rattle.bed_top.specs.Files.{out_file, HasRead, IsAbsent, JobLeaves, SameCounts}
 use Rattle.bed_top.specs.Returns.{module_is_built}
 use Rattle.bed_top.specs.Work.{base, Ends}
 use Rattle.bed_top.specs.declared.lines.Numbers.{Numbers}
@@ -60,6 +60,8 @@ pub record ReadsTexts {T : Type 0} (old new : FilesState) (names texts : List (L
   pub told : OnOk result (IsTrue old.tells → texts ≡ map (λ file. up_to most_text (bytes_of old file)) names)
   pub fewer : OnErr result (length texts < length names)
   pub failed : IsErrOf result Failed → Rose old.read_faults new.read_faults
+  -- the first file without a text is the one whose read failed
+  pub absent : IsErrOf result Failed → IsAbsent old new (word_at names (length texts))
   pub writes_stay : new.write_faults ≡ old.write_faults
   pub stays_calm : IsTrue old.tells → IsTrue old.calm → All (λ file. IsSome (old.held file)) names → new.read_faults ≡ old.read_faults
 
@@ -112,7 +114,8 @@ pub record Proceeds (job : Job) (old new : FilesState) (s : Status) : Type 0 whe
 
 -- why the work on a link ends with a status
 abbrev pub JobCaused : Job → List (List ℕ) → Numbers → FilesState → FilesState → Status → Type 0
-JobCaused job texts n old new ReadFault = (length texts < length job.modules) × Rose old.read_faults new.read_faults
+JobCaused job texts n old new ReadFault =
+    (length texts < length job.modules) × Rose old.read_faults new.read_faults × IsAbsent old new (word_at job.modules (length texts))
 JobCaused job texts n old new s = Ends (λ t. HasRead job texts old × Measuring job texts t) (LinksTexts job texts n old new) old new s
 
 -- what the work on a link does

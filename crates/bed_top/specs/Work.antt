@@ -5,8 +5,8 @@ use Rattle.bed_io.specs.Files.{FilesState, GoesOn}
 use Rattle.bed_lang.specs.declared.module.Module.{Module}
 use Rattle.bed_table.specs.Image.{image}
 use Rattle.bed_words.specs.declared.command.Job.{Job}
-use Rattle.bed_top.specs.Causes.{Asks, AreModules, Due}
-use Rattle.bed_top.specs.Files.{out_file, HasRead, Leaves, KeepsCalm}
+use Rattle.bed_top.specs.Causes.{word_at, Asks, AreModules, Due}
+use Rattle.bed_top.specs.Files.{out_file, HasRead, IsAbsent, Leaves, KeepsCalm}
 use Rattle.bed_top.specs.declared.status.Status.{Status}
 use Rattle.bed_top.specs.declared.status.Status.TheVariants.{Done, ReadFault, WriteFault, Memory}
 
@@ -33,10 +33,11 @@ Ends IsDue Written old new ReadFault = ⊥
 Ends IsDue Written old new Memory = Unit {0}
 Ends IsDue Written old new s = IsDue s
 
--- Why the work ends with a status: of a link that the words ask for, one of the module files couldn't be read and the count of
--- such faults rose (which of them, tests show); or it ends as is due by the words and the texts.
+-- Why the work ends with a status: of a link that the words ask for, the first module file without a text couldn't be read, and
+-- the count of such faults rose; or it ends as is due by the words and the texts.
 abbrev pub Caused : List (List ℕ) → Job → List (List ℕ) → FilesState → FilesState → Status → Type 0
-Caused words job texts old new ReadFault = Asks words job × (length texts < length job.modules) × Rose old.read_faults new.read_faults
+Caused words job texts old new ReadFault =
+    Asks words job × (length texts < length job.modules) × Rose old.read_faults new.read_faults × IsAbsent old new (word_at job.modules (length texts))
 Caused words job texts old new s = Ends (IsDue words job texts old) (Writes job texts old new) old new s
 
 -- what the work before the printed line does
