@@ -34,7 +34,8 @@ fn between(low: u8, high: u8, byte: u8) -> bool
     low <= byte && byte <= high
 }
 
-fn letter(byte: u8) -> bool
+/// Whether a byte is a letter or `_`.
+pub fn letter(byte: u8) -> bool
     ensures { result ≡ is_letter byte }
 {
     between(65, 90, byte) || between(97, 122, byte) || byte == 95
@@ -46,7 +47,8 @@ fn digit(byte: u8) -> bool
     between(48, 57, byte)
 }
 
-fn name_byte(byte: u8) -> bool
+/// Whether a byte is one of names: a letter, a digit or `_`.
+pub fn name_byte(byte: u8) -> bool
     ensures { result ≡ is_name_byte byte }
 {
     letter(byte) || digit(byte)
@@ -101,7 +103,7 @@ fn position_of(words: &[&str], word: &[u8]) -> Option<usize>
 }
 
 /// The position of a reserved word, a mark or the hole in `WORDS`.
-fn fixed(word: &[u8]) -> Option<usize>
+pub fn fixed(word: &[u8]) -> Option<usize>
     ensures exact { result ≡ fixed_word word.now }
     ensures within { IfSome result (λ i. i < 82) }
 {
@@ -154,8 +156,8 @@ fn digit_value(byte: u8, hexadecimal: bool) -> Option<u64>
     None
 }
 
-/// The value of a row of digits that fits a word.
-fn digits(word: &[u8], hexadecimal: bool) -> Option<u32>
+/// The value of a row of decimal or hexadecimal digits, where it is at most 4294967295.
+pub fn digits(word: &[u8], hexadecimal: bool) -> Option<u32>
     ensures { result ≡ that_fits (digits_value hexadecimal 0 word.now) }
 {
     let radix = if hexadecimal { 16 } else { 10 };

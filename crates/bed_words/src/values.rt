@@ -1,69 +1,13 @@
 //! What single words stand for.
-ghost use Rattle.std.specs.Prelude.{◌≡◌, ◌<◌, ◌+◌, nat_eq, length, position, take, drop, IfOk, IfSome, IsTrue, Option, Some, None, is_some, bytes_eq};
+ghost use Rattle.std.specs.Prelude.{◌≡◌, ◌<◌, ◌+◌, nat_eq, length, position, take, drop, IfOk, IfSome, IsTrue, Option, Some, None, is_some};
 ghost use Rattle.std.specs.List.{list_all};
-ghost use Rattle.bed_lex.specs.Numbers.{digit_of, digits_value, that_fits, is_between};
-ghost use Rattle.bed_lex.specs.Tokens.{is_letter, is_name_byte, is_digit, fixed_word};
+ghost use Rattle.bed_lex.specs.Numbers.{digits_value, that_fits};
+ghost use Rattle.bed_lex.specs.Tokens.{is_name_byte, fixed_word};
 ghost use Rattle.bed_words.specs.Values.{after_zero, number_of, begins_name, is_name, named, import_of, block_of, size_of};
 
 use bed_lang::{List, Name};
-use bed_lex::WORDS;
+use bed_lex::{digits, fixed, letter, name_byte};
 use std::alloc::{AllocError, Global};
-
-fn between(low: u8, high: u8, byte: u8) -> bool
-    ensures { result ≡ is_between low high byte }
-{
-    low <= byte && byte <= high
-}
-
-fn letter(byte: u8) -> bool
-    ensures { result ≡ is_letter byte }
-{
-    between(65, 90, byte) || between(97, 122, byte) || byte == 95
-}
-
-fn name_byte(byte: u8) -> bool
-    ensures { result ≡ is_name_byte byte }
-{
-    letter(byte) || between(48, 57, byte)
-}
-
-/// The value of a digit, decimal or hexadecimal.
-fn digit(byte: u8, hexadecimal: bool) -> Option<u64>
-    ensures exact { result ≡ digit_of hexadecimal byte }
-    ensures small { IfSome result (λ d. d < 16) }
-{
-    if between(48, 57, byte) {
-        return Some((byte - 48) as u64);
-    }
-    if !hexadecimal {
-        return None;
-    }
-    if between(65, 70, byte) {
-        return Some((byte - 55) as u64);
-    }
-    if between(97, 102, byte) {
-        return Some((byte - 87) as u64);
-    }
-    None
-}
-
-/// The value of a row of digits, where it is at most 4294967295.
-fn digits(word: &[u8], hexadecimal: bool) -> Option<u32>
-    ensures { result ≡ that_fits (digits_value hexadecimal 0 word.now) }
-{
-    let radix = if hexadecimal { 16 } else { 10 };
-    let mut value: u64 = 0;
-    for byte in word {
-        let Some(digit) = digit(*byte, hexadecimal) else {
-            return None;
-        };
-        value = value * radix + digit;
-        if value > 4_294_967_295 {
-            return None;
-        }
-    }
-    Some(value as u32)
-}
 
 fn after_first_zero(word: &[u8]) -> Option<u32>
     ensures { result ≡ after_zero word.now }
@@ -95,20 +39,6 @@ fn find_byte(word: &[u8], byte: u8) -> Option<usize>
     word.iter().position(|each| *each == byte)
 }
 
-/// The position of the first of these words that has these bytes.
-fn position_of(words: &[&str], word: &[u8]) -> Option<usize>
-    ensures { result ≡ position (λ w. bytes_eq w.now word.now) words.now }
-{
-    words.iter().position(|each| each.as_bytes() == word)
-}
-
-/// Whether a word is a reserved word, a mark or the hole.
-fn fixed(word: &[u8]) -> bool
-    ensures { result ≡ is_some (fixed_word word.now) }
-{
-    position_of(&WORDS, word).is_some()
-}
-
 fn begins_as_name(word: &[u8]) -> bool
     ensures { result ≡ begins_name word.now }
 {
@@ -128,7 +58,7 @@ fn has_name_bytes(word: &[u8]) -> bool
 fn is_named(word: &[u8]) -> bool
     ensures { result ≡ is_name word.now }
 {
-    begins_as_name(word) && has_name_bytes(word) && !fixed(word)
+    begins_as_name(word) && has_name_bytes(word) && fixed(word).is_none()
 }
 
 /// A name that stands in no text.
