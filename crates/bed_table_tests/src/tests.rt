@@ -1,403 +1,289 @@
-//! Images and lengths that were worked out by hand.
-use bed_lang::{
-    Assertion, Function, Import, List, Module, Name, Op, Operand, Place, Rel, Seq, Signature, Stmt,
-    StmtKind, Term, Test,
-};
+//! Images and lengths of whole texts. Their bytes were made by hand and by another program, from the rows of the table alone.
+use bed_lang::{List, Module, Name};
+use bed_read::read_module;
 use bed_table::{code_length, image, size_laws};
 use std::alloc::{AllocError, Global};
 use std::test::Fail;
 
-pub(crate) fn name(alloc: Global, text: &[u8]) -> Result<Name, AllocError> {
-    Ok(Name {
-        bytes: List::from_slice(alloc, text)?,
-        at: 0,
-    })
-}
+/// Texts with the hexadecimal digits of their images at base 0x00400000.
+const IMAGES: [(&[u8], &[u8]); 12] = [
+    // a number
+    (
+        b"module m; signature S() pre emp post [result = 7]; export function seven: S { return \
+          7; }",
+        b"42494D31000040001500000001000000010000400005736576656E89B500000000B9070000008BC18BB5\
+          00000000FFE6",
+    ),
+    // an argument
+    (
+        b"module m; signature I(x) pre emp post [result = x]; export function id: I { return x; \
+          }",
+        b"42494D31000040001600000001000000010000400002696489B5000000008B8D040000008BC18BB50000\
+          0000FFE6",
+    ),
+    // the larger of two numbers
+    (
+        b"module m; signature M(a, b) pre emp post emp; export function max: M { if a < b { \
+          return b; } return a; }",
+        b"42494D31000040003A000000010000000100004000036D617889B5000000008B8D040000008B95080000\
+          003BCA0F83100000008B8D080000008BC18BB500000000FFE68B8D040000008BC18BB500000000FFE6",
+    ),
+    // counting to n
+    (
+        b"module m; signature C(n) reserving 1 pre emp post emp; export function count: C \
+          locals i { i <- 0; while i < n invariant emp { i <- i + 1; } return i; }",
+        b"42494D31000040004D00000002000000010000400005636F756E7402110040000B636F756E742E6C6F6F\
+          703189B500000000B900000000898D080000008B8D080000008B95040000003BCA0F83180000008B8D08\
+          000000BA0100000003CA898D08000000E9D4FFFFFF8B8D080000008BC18BB500000000FFE6",
+    ),
+    // reversal in place
+    (
+        b"module m; signature Rev(p) reserving 2 pre emp post emp; export function rev: Rev \
+          locals r, n { r <- 0; while p != 0 invariant emp { n <- [p + 4]; [p + 4] <- r; r <- \
+          p; p <- n; } return r; }",
+        b"42494D310000400075000000020000000100004000037265760211004000097265762E6C6F6F703189B5\
+          00000000B900000000898D080000008B8D04000000BA000000003BCA0F84410000008B8D040000008B89\
+          04000000898D0C0000008B8D040000008B95080000008991040000008B8D04000000898D080000008B8D\
+          0C000000898D04000000E9ACFFFFFF8B8D080000008BC18BB500000000FFE6",
+    ),
+    // a function from a table, called
+    (
+        b"module m; signature U() pre emp post emp; signature Pick(t, i) reserving 2 pre emp \
+          post emp; function one: U { return 1; } function two: U { return 2; } export \
+          function pick: Pick locals f { [t] <- &one; [t + 4] <- &two; if i = 0 { f <- [t]; } \
+          else { f <- [t + 4]; } join emp; f <- call f via U() after emp; return f; }",
+        b"42494D3100004000BD000000030000000000004000036F6E6500150040000374776F012A004000047069\
+          636B89B500000000B9010000008BC18BB500000000FFE689B500000000B9020000008BC18BB500000000\
+          FFE689B5000000008B8D04000000BA000040008991000000008B8D04000000BA15004000899104000000\
+          8B8D08000000BA000000003BCA0F85170000008B8D040000008B8900000000898D0C000000E912000000\
+          8B8D040000008B8904000000898D0C0000008B950C00000081C510000000BEA1004000FFE281ED100000\
+          0089850C0000008B8D0C0000008BC18BB500000000FFE6",
+    ),
+    // a list that is searched
+    (
+        b"module m; signature Look(p, a) reserving 2 for s: seq pre lst(p, s) post lst(p, s); \
+          export function look: Look locals n, v { find n, v for a in p of s as u, t keep emp \
+          { return n; } return 0; }",
+        b"42494D31000040008D000000020000000100004000046C6F6F6B02120040000A6C6F6F6B2E6C6F6F7031\
+          89B5000000008B8D04000000898D0C0000008B8D0C000000BA000000003BCA0F84590000008B8D0C0000\
+          008B8900000000898D100000008B8D100000008B95080000003BCA0F85100000008B8D0C0000008BC18B\
+          B500000000FFE68B8D0C0000008B8904000000898D100000008B8D10000000898D0C000000E994FFFFFF\
+          B9000000008BC18BB500000000FFE6",
+    ),
+    // all operations
+    (
+        b"module m; signature F(a, b) reserving 1 pre emp post emp; function f: F locals x { \
+          x <- a - 1; x <- x * b; x <- 255 and x; x <- x or a; x <- x xor b; return x; }",
+        b"42494D310000400079000000010000000000004000016689B5000000008B8D04000000BA010000002BCA\
+          898D0C0000008B8D0C0000008B95080000000FAFCA898D0C000000B9FF0000008B950C00000023CA898D\
+          0C0000008B8D0C0000008B95040000000BCA898D0C0000008B8D0C0000008B950800000033CA898D0C00\
+          00008B8D0C0000008BC18BB500000000FFE6",
+    ),
+    // bytes and words of memory
+    (
+        b"module m; signature F(p) reserving 1 pre emp post emp; function f: F locals x { x \
+          <- byte [p + 1]; byte [p + 2] <- x; [p + 16909060] <- 9; x <- [p + 4]; return x; }",
+        b"42494D31000040005E000000010000000000004000016689B5000000008B8D040000000FB68901000000\
+          898D080000008B8D040000008B95080000008891020000008B8D04000000BA090000008991040302018B\
+          8D040000008B8904000000898D080000008B8D080000008BC18BB500000000FFE6",
+    ),
+    // all tests
+    (
+        b"module m; signature F(a) pre emp post emp; function f: F { if a = 1 { a <- 2; } \
+          join emp; while a <= 3 invariant emp { if a != 4 { a <- 5; } else { a <- 6; } join \
+          emp; while a < 7 invariant emp { return a; } } return a; }",
+        b"42494D3100004000A20000000300000000000040000166022900400007662E6C6F6F7031026A00400007\
+          662E6C6F6F703289B5000000008B8D04000000BA010000003BCA0F8510000000B902000000898D040000\
+          00E9000000008B8D04000000BA030000003BCA0F87560000008B8D04000000BA040000003BCA0F841000\
+          0000B905000000898D04000000E90B000000B906000000898D040000008B8D04000000BA070000003BCA\
+          0F83100000008B8D040000008BC18BB500000000FFE6E997FFFFFF8B8D040000008BC18BB500000000FF\
+          E6",
+    ),
+    // a call of a name, with two arguments
+    (
+        b"module m; signature D(a, b) pre emp post emp; signature G(n) reserving 5 pre emp \
+          post emp; export function go: G locals y, x { x <- call &f(n, 7) after emp; return \
+          x; } function f: D { a <- a - b; return a; }",
+        b"42494D31000040007500000002000000010000400002676F004B004000016689B5000000008B8D040000\
+          00898D14000000B907000000898D18000000BA4B00400081C510000000BE2F004000FFE281ED10000000\
+          89850C0000008B8D0C0000008BC18BB500000000FFE689B5000000008B8D040000008B95080000002BCA\
+          898D040000008B8D040000008BC18BB500000000FFE6",
+    ),
+    // a list that is added up
+    (
+        b"module m; signature Sum(p) reserving 3 for s: seq pre lst(p, s) post lst(p, s); \
+          export function sum: Sum locals r, n, v { r <- 0; walk n, v in p of s as u, t keep \
+          emp { r <- r + v; } return r; }",
+        b"42494D3100004000890000000200000001000040000373756D021D0040000973756D2E6C6F6F703189B5\
+          00000000B900000000898D080000008B8D04000000898D0C0000008B8D0C000000BA000000003BCA0F84\
+          490000008B8D0C0000008B8900000000898D100000008B8D080000008B951000000003CA898D08000000\
+          8B8D0C0000008B8904000000898D100000008B8D10000000898D0C000000E9A4FFFFFF8B8D080000008B\
+          C18BB500000000FFE6",
+    ),
+];
 
-fn local(alloc: Global, text: &[u8]) -> Result<Operand, AllocError> {
-    Ok(Operand::Local(name(alloc, text)?))
-}
+/// Texts that name an import, with their images where the import stands at 0x1000.
+const IMPORTING: [(&[u8], &[u8]); 2] = [
+    // its address
+    (
+        b"module m; signature F() pre emp post emp; import say: F; export function f: F { return \
+          &say; }",
+        b"42494D310000400015000000020000000100004000016603001000000373617989B500000000B9001000\
+          008BC18BB500000000FFE6",
+    ),
+    // a call of it
+    (
+        b"module m; signature P(v) pre emp post emp; signature G() reserving 3 pre emp post \
+          emp; import say: P; export function go: G locals x { x <- call &say(5) after emp; \
+          return 0; }",
+        b"42494D31000040003E00000002000000010000400002676F03001000000373617989B500000000B90500\
+          0000898D0C000000BA0010000081C508000000BE23004000FFE281ED08000000898504000000B9000000\
+          008BC18BB500000000FFE6",
+    ),
+];
 
-fn emp(alloc: Global) -> Result<Assertion, AllocError> {
-    let mut terms = List::new(alloc);
-    terms.push(Term::Emp)?;
-    Ok(Assertion {
-        at: 0,
-        binders: List::new(alloc),
-        terms,
-    })
-}
+/// Modules and the length of their code.
+const LENGTHS: [(&[&[u8]], u64); 5] = [
+    // a byte that is stored and loaded
+    (
+        &[
+            b"module m; signature B(p) reserving 1 for v: word pre p |->b v post p |->b 7 * [result = 7]; export function f: B locals x { byte [p] <- 7; x <- byte [p]; return x; }",
+        ],
+        58,
+    ),
+    // a loop
+    (
+        &[
+            b"module m; signature T() reserving 1 pre emp post [result = 7]; export function f: T locals i { i <- 0; while i != 7 invariant emp { i <- i + 1; } return i; }",
+        ],
+        76,
+    ),
+    // a test
+    (
+        &[
+            b"module m; signature A(a) pre emp post [result != 0]; export function f: A { if a = 0 { return 1; } return a; }",
+        ],
+        56,
+    ),
+    // two modules, of which one calls the other
+    (
+        &[
+            b"module a; signature S(n) pre emp post [result = n]; export function id: S { return n; }",
+            b"module b; signature S(n) pre emp post [result = n]; signature T(n) reserving 3 pre emp post [result = n]; import id: S; export function twice: T locals x { x <- call &id(n) after [x = old n]; return x; }",
+        ],
+        86,
+    ),
+    // a loop, and a call of it
+    (
+        &[
+            b"module m; signature C(n) reserving 1 pre emp post emp; signature D(n) reserving 4 pre emp post emp; function f1: C locals i { i <- 0; while i < n invariant emp { i <- i + 1; } return i; } function f2: D locals x { x <- call &f1(n) after emp; return x; }",
+        ],
+        141,
+    ),
+];
 
-fn signature(alloc: Global, text: &[u8], params: List<Name>) -> Result<Signature, AllocError> {
-    Ok(Signature {
-        name: name(alloc, text)?,
-        params,
-        reserve: 0,
-        logical: List::new(alloc),
-        pre: emp(alloc)?,
-        post: emp(alloc)?,
-    })
-}
+/// Texts with one image: `find` and `walk`, and the statements that they stand for.
+const ALIKE: [(&[u8], &[u8]); 2] = [
+    (
+        b"module m; signature L(p, a) reserving 2 pre emp post emp; function look: L locals n, v { find n, v for a in p of nil as u, t keep emp { return n; } return 0; }",
+        b"module m; signature L(p, a) reserving 2 pre emp post emp; function look: L locals n, v { n <- p; while n != 0 invariant emp { v <- [n]; if v = a { return n; } v <- [n + 4]; n <- v; } return 0; }",
+    ),
+    (
+        b"module m; signature L(p, a) reserving 2 pre emp post emp; function sum: L locals n, v { walk n, v in p of nil as u, t keep emp { a <- a + v; } return a; }",
+        b"module m; signature L(p, a) reserving 2 pre emp post emp; function sum: L locals n, v { n <- p; while n != 0 invariant emp { v <- [n]; a <- a + v; v <- [n + 4]; n <- v; } return a; }",
+    ),
+];
 
-fn names(alloc: Global, texts: &[&[u8]]) -> Result<List<Name>, AllocError> {
-    let mut list = List::new(alloc);
-    for text in texts {
-        list.push(name(alloc, text)?)?;
+fn read(alloc: Global, text: &[u8]) -> Result<Module, Fail> {
+    if text.len() > 1000 {
+        return Err(Fail::from("a text is too long"));
     }
-    Ok(list)
+    match read_module(alloc, text) {
+        Ok(module) => Ok(module),
+        Err(_) => Err(Fail::from("a text isn't read")),
+    }
 }
 
-fn assign(alloc: Global, x: &[u8], a: Operand) -> Result<StmtKind, AllocError> {
-    Ok(StmtKind::Assign(name(alloc, x)?, a))
+fn built(alloc: Global, text: &[u8], imports: &[(Name, u32)]) -> Result<Vec<u8>, Fail> {
+    let modules = [read(alloc, text)?];
+    if code_length(&modules) > 1_048_576 {
+        return Err(Fail::from("the code is too long"));
+    }
+    Ok(image(alloc, &modules, 0x0040_0000, imports)?)
 }
 
-fn load(alloc: Global, x: &[u8], base: &[u8], disp: u32) -> Result<StmtKind, AllocError> {
-    let base = local(alloc, base)?;
-    Ok(StmtKind::Load(name(alloc, x)?, Place { base, disp }))
+fn digit(n: u8) -> u8 {
+    if n < 10 {
+        n.wrapping_add(b'0')
+    } else {
+        n.wrapping_add(b'A' - 10)
+    }
 }
 
-// x <- x + 1
-fn increment(alloc: Global, x: &[u8]) -> Result<StmtKind, AllocError> {
-    let left = local(alloc, x)?;
-    Ok(StmtKind::Compute(name(alloc, x)?, Op::Add, left, Operand::Number(1)))
+fn digits(alloc: Global, bytes: &[u8]) -> Result<Vec<u8>, AllocError> {
+    let mut out = Vec::new(alloc);
+    for byte in bytes {
+        out.push(digit(*byte / 16))?;
+        out.push(digit(*byte % 16))?;
+    }
+    Ok(out)
 }
 
-fn give(alloc: Global, x: &[u8]) -> Result<StmtKind, AllocError> {
-    Ok(StmtKind::Return(local(alloc, x)?))
-}
-
-fn test(alloc: Global, x: &[u8], rel: Rel, right: Operand) -> Result<Test, AllocError> {
-    Ok(Test {
-        at: 0,
-        rel,
-        left: local(alloc, x)?,
-        right,
-    })
-}
-
-fn add(body: &mut List<Stmt>, kind: StmtKind) -> Result<(), AllocError> {
-    body.push(Stmt { at: 0, kind })
-}
-
-fn repeat(alloc: Global, test: Test, body: List<Stmt>) -> Result<StmtKind, AllocError> {
-    Ok(StmtKind::While {
-        test,
-        place: 0,
-        invariant: emp(alloc)?,
-        body,
-    })
-}
-
-fn call(alloc: Global, x: &[u8], f: &[u8], a: &[u8]) -> Result<StmtKind, AllocError> {
-    let mut args = List::new(alloc);
-    args.push(local(alloc, a)?)?;
-    Ok(StmtKind::Call {
-        place: 0,
-        into: name(alloc, x)?,
-        target: Operand::Label(name(alloc, f)?),
-        via: None,
-        args,
-        hints: List::new(alloc),
-        after: emp(alloc)?,
-    })
-}
-
-// An exported function, with a signature of its own name.
-fn define(
+fn has_image(
     alloc: Global,
-    module: &mut Module,
-    f: &[u8],
-    params: &[&[u8]],
-    locals: &[&[u8]],
-    body: List<Stmt>,
-) -> Result<(), AllocError> {
-    let params = names(alloc, params)?;
-    module.signatures.push(signature(alloc, f, params)?)?;
-    module.functions.push(Function {
-        name: name(alloc, f)?,
-        exported: true,
-        signature: name(alloc, f)?,
-        locals: names(alloc, locals)?,
-        body,
-        end: 0,
-    })
-}
-
-fn empty_module(alloc: Global) -> Result<Module, AllocError> {
-    Ok(Module {
-        name: name(alloc, b"m")?,
-        signatures: List::new(alloc),
-        predicates: List::new(alloc),
-        imports: List::new(alloc),
-        functions: List::new(alloc),
-    })
-}
-
-// A module of one exported function.
-fn single(
-    alloc: Global,
-    f: &[u8],
-    params: &[&[u8]],
-    locals: &[&[u8]],
-    body: List<Stmt>,
-) -> Result<Module, AllocError> {
-    let mut module = empty_module(alloc)?;
-    define(alloc, &mut module, f, params, locals, body)?;
-    Ok(module)
-}
-
-pub(crate) fn built(
-    alloc: Global,
-    modules: &[Module],
+    text: &[u8],
     imports: &[(Name, u32)],
-) -> Result<Vec<u8>, Fail> {
-    if code_length(modules) > 1048576 {
-        Err("the code is too long")?;
-        return Ok(Vec::new(alloc));
-    }
-    Ok(image(alloc, modules, 0x0040_0000, imports)?)
-}
-
-// i <- 0; while i < n { i <- i + 1; } return i;
-fn counting(alloc: Global) -> Result<List<Stmt>, AllocError> {
-    let mut inner = List::new(alloc);
-    add(&mut inner, increment(alloc, b"i")?)?;
-    let right = local(alloc, b"n")?;
-    let below = test(alloc, b"i", Rel::Less, right)?;
-    let mut body = List::new(alloc);
-    add(&mut body, assign(alloc, b"i", Operand::Number(0))?)?;
-    add(&mut body, repeat(alloc, below, inner)?)?;
-    add(&mut body, give(alloc, b"i")?)?;
-    Ok(body)
+    wanted: &[u8],
+) -> Result<bool, Fail> {
+    let image = built(alloc, text, imports)?;
+    let got = digits(alloc, image.as_slice())?;
+    Ok(got.as_slice() == wanted)
 }
 
 #[test]
-fn writes_a_whole_image(rt: HostRuntime) -> Result<(), Fail> {
+fn texts_have_their_images(rt: HostRuntime) -> Result<(), Fail> {
     let alloc = rt.alloc();
     size_laws();
-    let mut body = List::new(alloc);
-    add(&mut body, StmtKind::Return(Operand::Number(7)))?;
-    let module = single(alloc, b"seven", &[], &[], body)?;
-    let expected: [u8; 48] = [
-        0x42, 0x49, 0x4D, 0x31, 0, 0, 0x40, 0, 0x15, 0, 0, 0, 1, 0, 0, 0, 1, 0, 0, 0x40, 0, 5,
-        0x73, 0x65, 0x76, 0x65, 0x6E, 0x89, 0xB5, 0, 0, 0, 0, 0xB9, 7, 0, 0, 0, 0x8B, 0xC1, 0x8B,
-        0xB5, 0, 0, 0, 0, 0xFF, 0xE6,
-    ];
-    let bytes = built(alloc, &[module], &[])?;
-    assert_eq!(rt; bytes.as_slice(), expected.as_slice());
+    for (text, wanted) in &IMAGES {
+        assert!(rt; has_image(alloc, *text, &[], *wanted)?);
+    }
     Ok(())
 }
 
 #[test]
-fn returns_its_argument(rt: HostRuntime) -> Result<(), Fail> {
+fn an_import_stands_at_its_address(rt: HostRuntime) -> Result<(), Fail> {
     let alloc = rt.alloc();
-    let mut body = List::new(alloc);
-    add(&mut body, give(alloc, b"x")?)?;
-    let module = single(alloc, b"id", &[b"x"], &[], body)?;
-    let expected: [u8; 46] = [
-        0x42, 0x49, 0x4D, 0x31, 0, 0, 0x40, 0, 22, 0, 0, 0, 1, 0, 0, 0, 1, 0, 0, 0x40, 0, 2, 0x69,
-        0x64, 0x89, 0xB5, 0, 0, 0, 0, 0x8B, 0x8D, 4, 0, 0, 0, 0x8B, 0xC1, 0x8B, 0xB5, 0, 0, 0, 0,
-        0xFF, 0xE6,
-    ];
-    let bytes = built(alloc, &[module], &[])?;
-    assert_eq!(rt; bytes.as_slice(), expected.as_slice());
+    let say = Name {
+        bytes: List::from_slice(alloc, b"say")?,
+        at: 0,
+    };
+    let imports = [(say, 0x1000)];
+    for (text, wanted) in &IMPORTING {
+        assert!(rt; has_image(alloc, *text, &imports, *wanted)?);
+    }
     Ok(())
 }
 
 #[test]
-fn counts_in_a_loop(rt: HostRuntime) -> Result<(), Fail> {
+fn texts_have_their_lengths(rt: HostRuntime) -> Result<(), Fail> {
     let alloc = rt.alloc();
-    let module = single(alloc, b"count", &[b"n"], &[b"i"], counting(alloc)?)?;
-    let expected: [u8; 121] = [
-        0x42, 0x49, 0x4D, 0x31, 0, 0, 0x40, 0, 77, 0, 0, 0, 2, 0, 0, 0, 1, 0, 0, 0x40, 0, 5, 0x63,
-        0x6F, 0x75, 0x6E, 0x74, 2, 0x11, 0, 0x40, 0, 11, 0x63, 0x6F, 0x75, 0x6E, 0x74, 0x2E, 0x6C,
-        0x6F, 0x6F, 0x70, 0x31, 0x89, 0xB5, 0, 0, 0, 0, 0xB9, 0, 0, 0, 0, 0x89, 0x8D, 8, 0, 0, 0,
-        0x8B, 0x8D, 8, 0, 0, 0, 0x8B, 0x95, 4, 0, 0, 0, 0x3B, 0xCA, 0x0F, 0x83, 0x18, 0, 0, 0,
-        0x8B, 0x8D, 8, 0, 0, 0, 0xBA, 1, 0, 0, 0, 0x03, 0xCA, 0x89, 0x8D, 8, 0, 0, 0, 0xE9, 0xD4,
-        0xFF, 0xFF, 0xFF, 0x8B, 0x8D, 8, 0, 0, 0, 0x8B, 0xC1, 0x8B, 0xB5, 0, 0, 0, 0, 0xFF, 0xE6,
-    ];
-    let bytes = built(alloc, &[module], &[])?;
-    assert_eq!(rt; bytes.as_slice(), expected.as_slice());
+    for (texts, length) in &LENGTHS {
+        let mut modules = List::new(alloc);
+        for text in *texts {
+            modules.push(read(alloc, *text)?)?;
+        }
+        assert_eq!(rt; code_length(modules.as_slice()), *length);
+    }
     Ok(())
 }
 
 #[test]
-fn has_the_length_of_its_parts(rt: HostRuntime) -> Result<(), Fail> {
+fn loops_over_lists_have_the_code_of_their_statements(rt: HostRuntime) -> Result<(), Fail> {
     let alloc = rt.alloc();
-
-    // byte [p] <- 7; x <- byte [p]; return x;
-    let mut body = List::new(alloc);
-    let base = local(alloc, b"p")?;
-    add(
-        &mut body,
-        StmtKind::StoreByte(Place { base, disp: 0 }, Operand::Number(7)),
-    )?;
-    let base = local(alloc, b"p")?;
-    add(
-        &mut body,
-        StmtKind::LoadByte(name(alloc, b"x")?, Place { base, disp: 0 }),
-    )?;
-    add(&mut body, give(alloc, b"x")?)?;
-    assert_eq!(rt;
-        code_length(&[single(alloc, b"f", &[b"p"], &[b"x"], body)?]),
-        58
-    );
-
-    // i <- 0; while i != 7 { i <- i + 1; } return i;
-    let mut inner = List::new(alloc);
-    add(&mut inner, increment(alloc, b"i")?)?;
-    let unequal = test(alloc, b"i", Rel::Unequal, Operand::Number(7))?;
-    let mut body = List::new(alloc);
-    add(&mut body, assign(alloc, b"i", Operand::Number(0))?)?;
-    add(&mut body, repeat(alloc, unequal, inner)?)?;
-    add(&mut body, give(alloc, b"i")?)?;
-    assert_eq!(rt;
-        code_length(&[single(alloc, b"f", &[], &[b"i"], body)?]),
-        76
-    );
-
-    // if a = 0 { return 1; } return a;
-    let mut yes = List::new(alloc);
-    add(&mut yes, StmtKind::Return(Operand::Number(1)))?;
-    let zero = test(alloc, b"a", Rel::Equal, Operand::Number(0))?;
-    let mut body = List::new(alloc);
-    add(
-        &mut body,
-        StmtKind::If {
-            test: zero,
-            yes,
-            no: List::new(alloc),
-            join: None,
-        },
-    )?;
-    add(&mut body, give(alloc, b"a")?)?;
-    assert_eq!(rt;
-        code_length(&[single(alloc, b"f", &[b"a"], &[], body)?]),
-        56
-    );
-    Ok(())
-}
-
-// r <- 0; while p != 0 { n <- [p + 4]; [p + 4] <- r; r <- p; p <- n; } return r;
-#[test]
-fn reverses_in_117_bytes(rt: HostRuntime) -> Result<(), Fail> {
-    let alloc = rt.alloc();
-    let mut inner = List::new(alloc);
-    add(&mut inner, load(alloc, b"n", b"p", 4)?)?;
-    let base = local(alloc, b"p")?;
-    add(
-        &mut inner,
-        StmtKind::Store(Place { base, disp: 4 }, local(alloc, b"r")?),
-    )?;
-    add(&mut inner, assign(alloc, b"r", local(alloc, b"p")?)?)?;
-    add(&mut inner, assign(alloc, b"p", local(alloc, b"n")?)?)?;
-    let more = test(alloc, b"p", Rel::Unequal, Operand::Number(0))?;
-    let mut body = List::new(alloc);
-    add(&mut body, assign(alloc, b"r", Operand::Number(0))?)?;
-    add(&mut body, repeat(alloc, more, inner)?)?;
-    add(&mut body, give(alloc, b"r")?)?;
-    let module = single(alloc, b"rev", &[b"p"], &[b"r", b"n"], body)?;
-    assert_eq!(rt; code_length(&[module]), 117);
-    Ok(())
-}
-
-#[test]
-fn calls_another_function(rt: HostRuntime) -> Result<(), Fail> {
-    let alloc = rt.alloc();
-    let mut body = List::new(alloc);
-    add(&mut body, give(alloc, b"n")?)?;
-    let callee = single(alloc, b"id", &[b"n"], &[], body)?;
-    let mut body = List::new(alloc);
-    add(&mut body, call(alloc, b"x", b"id", b"n")?)?;
-    add(&mut body, give(alloc, b"x")?)?;
-    let caller = single(alloc, b"twice", &[b"n"], &[b"x"], body)?;
-    assert_eq!(rt; code_length(&[callee, caller]), 86);
-
-    let mut generated = single(alloc, b"f1", &[b"n"], &[b"i"], counting(alloc)?)?;
-    let mut body = List::new(alloc);
-    add(&mut body, call(alloc, b"x", b"f1", b"n")?)?;
-    add(&mut body, give(alloc, b"x")?)?;
-    define(alloc, &mut generated, b"f2", &[b"n"], &[b"x"], body)?;
-    assert_eq!(rt; code_length(&[generated]), 141);
-    Ok(())
-}
-
-// An import stands behind the functions, at the address that was given for it.
-#[test]
-fn names_an_outside_import(rt: HostRuntime) -> Result<(), Fail> {
-    let alloc = rt.alloc();
-    let mut body = List::new(alloc);
-    add(
-        &mut body,
-        StmtKind::Return(Operand::Label(name(alloc, b"say")?)),
-    )?;
-    let mut module = single(alloc, b"f", &[], &[], body)?;
-    module.imports.push(Import {
-        name: name(alloc, b"say")?,
-        signature: name(alloc, b"f")?,
-    })?;
-    let expected: [u8; 53] = [
-        0x42, 0x49, 0x4D, 0x31, 0, 0, 0x40, 0, 21, 0, 0, 0, 2, 0, 0, 0, 1, 0, 0, 0x40, 0, 1, 0x66,
-        3, 0, 0x10, 0, 0, 3, 0x73, 0x61, 0x79, 0x89, 0xB5, 0, 0, 0, 0, 0xB9, 0, 0x10, 0, 0, 0x8B,
-        0xC1, 0x8B, 0xB5, 0, 0, 0, 0, 0xFF, 0xE6,
-    ];
-    let imports = [(name(alloc, b"say")?, 0x1000)];
-    let bytes = built(alloc, &[module], &imports)?;
-    assert_eq!(rt; bytes.as_slice(), expected.as_slice());
-    Ok(())
-}
-
-// The body that is done at a node: `if v = a { return n; }`.
-fn found(alloc: Global) -> Result<StmtKind, AllocError> {
-    let mut yes = List::new(alloc);
-    add(&mut yes, give(alloc, b"n")?)?;
-    let key = local(alloc, b"a")?;
-    Ok(StmtKind::If {
-        test: test(alloc, b"v", Rel::Equal, key)?,
-        yes,
-        no: List::new(alloc),
-        join: None,
-    })
-}
-
-// A `find` has the code of the statements that it stands for.
-#[test]
-fn finds_by_its_expansion(rt: HostRuntime) -> Result<(), Fail> {
-    let alloc = rt.alloc();
-    let mut yes = List::new(alloc);
-    add(&mut yes, give(alloc, b"n")?)?;
-    let mut body = List::new(alloc);
-    add(
-        &mut body,
-        StmtKind::Find {
-            node: name(alloc, b"n")?,
-            value: name(alloc, b"v")?,
-            key: local(alloc, b"a")?,
-            list: name(alloc, b"p")?,
-            seq: Seq::Nil,
-            seen: name(alloc, b"u")?,
-            rest: name(alloc, b"t")?,
-            keep: emp(alloc)?,
-            body: yes,
-        },
-    )?;
-    add(&mut body, StmtKind::Return(Operand::Number(0)))?;
-    let short = single(alloc, b"look", &[b"p", b"a"], &[b"n", b"v"], body)?;
-
-    let mut inner = List::new(alloc);
-    add(&mut inner, load(alloc, b"v", b"n", 0)?)?;
-    add(&mut inner, found(alloc)?)?;
-    add(&mut inner, load(alloc, b"v", b"n", 4)?)?;
-    add(&mut inner, assign(alloc, b"n", local(alloc, b"v")?)?)?;
-    let more = test(alloc, b"n", Rel::Unequal, Operand::Number(0))?;
-    let mut body = List::new(alloc);
-    add(&mut body, assign(alloc, b"n", local(alloc, b"p")?)?)?;
-    add(&mut body, repeat(alloc, more, inner)?)?;
-    add(&mut body, StmtKind::Return(Operand::Number(0)))?;
-    let long = single(alloc, b"look", &[b"p", b"a"], &[b"n", b"v"], body)?;
-
-    let one = built(alloc, &[short], &[])?;
-    let other = built(alloc, &[long], &[])?;
-    assert_eq!(rt; one.as_slice(), other.as_slice());
+    for (short, long) in &ALIKE {
+        let one = built(alloc, *short, &[])?;
+        let other = built(alloc, *long, &[])?;
+        assert_eq!(rt; one.as_slice(), other.as_slice());
+    }
     Ok(())
 }
