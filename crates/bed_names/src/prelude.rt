@@ -3,7 +3,7 @@ ghost use Rattle.std.specs.Prelude.{◌≡◌, ◌∷◌, [], codes, IfOk};
 ghost use Rattle.bed_lang.specs.Prelude.{name as name_of, word as word_of, sequence as sequence_of, bind as bind_of, segment as segment_of, empty_segment as the_empty_segment, longer_segment as the_longer_segment, lseg as the_lseg, lst as the_lst, prelude as the_prelude};
 ghost use Rattle.bed_lang.specs.declared.logic.Atom.TheVariants as atom;
 ghost use Rattle.bed_lang.specs.declared.logic.Pure.TheVariants as pure;
-ghost use Rattle.bed_lang.specs.declared.word.Seq.{Cons};
+ghost use Rattle.bed_lang.specs.declared.word.Seq.{Cons, Nil};
 ghost use Rattle.bed_lang.specs.declared.word.Word.{Add, Number};
 
 use bed_lang::{
@@ -74,16 +74,37 @@ fn segment(alloc: Global, p: Word, q: Word, s: Seq) -> Result<Term, AllocError>
     Ok(Term::Atom(Atom::Pred(name(alloc, b"lseg")?, args)))
 }
 
-fn empty_segment(alloc: Global) -> Result<Assertion, AllocError>
-    ensures { IfOk result (λ a. a ≡ the_empty_segment) }
+// [p = q]
+fn is_empty(alloc: Global) -> Result<Pure, AllocError>
+    ensures { IfOk result (λ p. p ≡ pure.Equal (word_of (codes "p")) (word_of (codes "q"))) }
 {
-    let is_empty = Pure::Equal(word(alloc, b"p")?, word(alloc, b"q")?);
-    let has_none = Pure::Same(sequence(alloc, b"s")?, Seq::Nil);
-    Ok(Assertion {
+    Ok(Pure::Equal(word(alloc, b"p")?, word(alloc, b"q")?))
+}
+
+// [s == nil]
+fn has_none(alloc: Global) -> Result<Pure, AllocError>
+    ensures { IfOk result (λ p. p ≡ pure.Same (sequence_of (codes "s")) Nil) }
+{
+    Ok(Pure::Same(sequence(alloc, b"s")?, Seq::Nil))
+}
+
+fn empty_terms(alloc: Global) -> Result<List<Term>, AllocError>
+    ensures { IfOk result (λ ts. ts ≡ the_empty_segment.terms) }
+{
+    let mut terms = one(alloc, Term::Pure(is_empty(alloc)?))?;
+    terms.push(Term::Pure(has_none(alloc)?))?;
+    Ok(terms)
+}
+
+// An assertion without binders.
+fn unbound(alloc: Global, terms: List<Term>) -> Assertion
+    ensures { result ≡ record { at = 0; binders = []; terms = terms } }
+{
+    Assertion {
         at: 0,
         binders: List::new(alloc),
-        terms: two(alloc, Term::Pure(is_empty), Term::Pure(has_none))?,
-    })
+        terms,
+    }
 }
 
 // [s == cons(v, t)]
@@ -137,44 +158,70 @@ fn longer_terms(alloc: Global) -> Result<List<Term>, AllocError>
     Ok(terms)
 }
 
+// p: word, q: word, s: seq
+fn lseg_params(alloc: Global) -> Result<List<Bind>, AllocError>
+    ensures { IfOk result (λ bs. bs ≡ the_lseg.params) }
+{
+    let mut params = one(alloc, bind(alloc, b"p", Sort::Word)?)?;
+    params.push(bind(alloc, b"q", Sort::Word)?)?;
+    params.push(bind(alloc, b"s", Sort::Seq)?)?;
+    Ok(params)
+}
+
+fn longer_segment(alloc: Global) -> Result<Assertion, AllocError>
+    ensures { IfOk result (λ a. a ≡ the_longer_segment) }
+{
+    let binders = longer_binders(alloc)?;
+    let terms = longer_terms(alloc)?;
+    Ok(Assertion {
+        at: 0,
+        binders,
+        terms,
+    })
+}
+
 fn lseg(alloc: Global) -> Result<Predicate, AllocError>
     ensures { IfOk result (λ p. p ≡ the_lseg) }
 {
-    let first = bind(alloc, b"p", Sort::Word)?;
-    let last = bind(alloc, b"q", Sort::Word)?;
-    let elements = bind(alloc, b"s", Sort::Seq)?;
-    let longer = Assertion {
-        at: 0,
-        binders: longer_binders(alloc)?,
-        terms: longer_terms(alloc)?,
-    };
+    let params = lseg_params(alloc)?;
+    let empty = unbound(alloc, empty_terms(alloc)?);
+    let mut cases = one(alloc, empty)?;
+    cases.push(longer_segment(alloc)?)?;
     Ok(Predicate {
         name: name(alloc, b"lseg")?,
-        params: three(alloc, first, last, elements)?,
-        cases: two(alloc, empty_segment(alloc)?, longer)?,
+        params,
+        cases,
     })
+}
+
+// p: word, s: seq
+fn lst_params(alloc: Global) -> Result<List<Bind>, AllocError>
+    ensures { IfOk result (λ bs. bs ≡ the_lst.params) }
+{
+    let mut params = one(alloc, bind(alloc, b"p", Sort::Word)?)?;
+    params.push(bind(alloc, b"s", Sort::Seq)?)?;
+    Ok(params)
+}
+
+// lseg(p, 0, s)
+fn whole_list(alloc: Global) -> Result<Term, AllocError>
+    ensures { IfOk result (λ t. t ≡ segment_of (word_of (codes "p")) (Number 0) (sequence_of (codes "s"))) }
+{
+    let first = word(alloc, b"p")?;
+    let elements = sequence(alloc, b"s")?;
+    segment(alloc, first, Word::Number(0), elements)
 }
 
 fn lst(alloc: Global) -> Result<Predicate, AllocError>
     ensures { IfOk result (λ p. p ≡ the_lst) }
 {
-    let first = bind(alloc, b"p", Sort::Word)?;
-    let elements = bind(alloc, b"s", Sort::Seq)?;
-    let all = segment(
-        alloc,
-        word(alloc, b"p")?,
-        Word::Number(0),
-        sequence(alloc, b"s")?,
-    )?;
-    let case = Assertion {
-        at: 0,
-        binders: List::new(alloc),
-        terms: one(alloc, all)?,
-    };
+    let params = lst_params(alloc)?;
+    let terms = one(alloc, whole_list(alloc)?)?;
+    let cases = one(alloc, unbound(alloc, terms))?;
     Ok(Predicate {
         name: name(alloc, b"lst")?,
-        params: two(alloc, first, elements)?,
-        cases: one(alloc, case)?,
+        params,
+        cases,
     })
 }
 

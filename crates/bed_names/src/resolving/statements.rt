@@ -83,6 +83,31 @@ fn resolve_while(
     })
 }
 
+// What `find` and `walk` go over: the list, its elements, and the names of those seen and of the rest.
+fn over(
+    alloc: Global,
+    list: &Name,
+    seq: &Seq,
+    seen: &Name,
+    rest: &Name,
+) -> Result<(Name, Seq, Name, Name), AllocError>
+    ensures { IfOk result (λ r. r ≡ (list.now, seq.now, seen.now, rest.now)) }
+{
+    Ok((
+        list.copy(alloc)?,
+        seq.copy(alloc)?,
+        seen.copy(alloc)?,
+        rest.copy(alloc)?,
+    ))
+}
+
+// The two locals that `find` and `walk` set.
+fn locals(alloc: Global, node: &Name, value: &Name) -> Result<(Name, Name), AllocError>
+    ensures { IfOk result (λ r. r ≡ (node.now, value.now)) }
+{
+    Ok((node.copy(alloc)?, value.copy(alloc)?))
+}
+
 fn resolve_find(
     alloc: Global,
     outer: &Outer,
@@ -99,14 +124,17 @@ fn resolve_find(
     ensures { IfOk result (λ r. r ≡ StmtKind.Find node.now value.now key.now list.now seq.now seen.now rest.now (resolved_keep outer.now seen.now rest.now keep.now) body) }
 {
     let keep = kept(alloc, outer, seen, rest, keep)?;
+    let key = key.copy(alloc)?;
+    let (node, value) = locals(alloc, node, value)?;
+    let (list, seq, seen, rest) = over(alloc, list, seq, seen, rest)?;
     Ok(StmtKind::Find {
-        node: node.copy(alloc)?,
-        value: value.copy(alloc)?,
-        key: key.copy(alloc)?,
-        list: list.copy(alloc)?,
-        seq: seq.copy(alloc)?,
-        seen: seen.copy(alloc)?,
-        rest: rest.copy(alloc)?,
+        node,
+        value,
+        key,
+        list,
+        seq,
+        seen,
+        rest,
         keep,
         body,
     })
@@ -127,13 +155,15 @@ fn resolve_walk(
     ensures { IfOk result (λ r. r ≡ StmtKind.Walk node.now value.now list.now seq.now seen.now rest.now (resolved_keep outer.now seen.now rest.now keep.now) body) }
 {
     let keep = kept(alloc, outer, seen, rest, keep)?;
+    let (node, value) = locals(alloc, node, value)?;
+    let (list, seq, seen, rest) = over(alloc, list, seq, seen, rest)?;
     Ok(StmtKind::Walk {
-        node: node.copy(alloc)?,
-        value: value.copy(alloc)?,
-        list: list.copy(alloc)?,
-        seq: seq.copy(alloc)?,
-        seen: seen.copy(alloc)?,
-        rest: rest.copy(alloc)?,
+        node,
+        value,
+        list,
+        seq,
+        seen,
+        rest,
         keep,
         body,
     })
