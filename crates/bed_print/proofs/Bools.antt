@@ -1,14 +1,6 @@
 -- Tests of numbers and of other tests.
-use Rattle.std.proofs.Common.{◌≡◌, ℕ, ◌<◌, Bool, true, false, ◌&&◌, ◌||◌, nat_eq, nat_lt, refl, arith}
+use Rattle.std.proofs.Common.{◌≡◌, ℕ, ◌<◌, Bool, true, false, ◌||◌, nat_lt, refl, arith}
 use Rattle.std.proofs.lemmas.Bool.Decides.{nat_tests}
-
-pub and_first : (a b : Bool) → (a && b) ≡ true → a ≡ true
-and_first true b h = refl
-and_first false b h = absurd (cc)
-
-pub and_second : (a b : Bool) → (a && b) ≡ true → b ≡ true
-and_second true b h = h
-and_second false b h = absurd (cc)
 
 pub or_case : (P : Type 0) (a b : Bool) → (a || b) ≡ true → (a ≡ true → P) → (b ≡ true → P) → P
 or_case P true b h f g = f refl
@@ -17,9 +9,6 @@ or_case P false b h f g = g h
 pub by_test : (P : Type 0) (b : Bool) → (b ≡ true → P) → (b ≡ false → P) → P
 by_test P true f g = f refl
 by_test P false f g = g refl
-
-pub eq_is : (n m : ℕ) → nat_eq n m ≡ true → n ≡ m
-eq_is n m h = grind (arith, nat_tests)
 
 pub lt_is : (n m : ℕ) → nat_lt n m ≡ true → n < m
 lt_is n m h = grind (arith, nat_tests)

@@ -1,8 +1,9 @@
 -- Texts within the limits, production by production, and the texts that are printed from their values.
 use Rattle.std.proofs.Common.{◌≡◌, ℕ, ◌+◌, Bool, true, false, ◌&&◌, nat_le, nat_lt, cond, List, [], ◌∷◌, ◌++◌, map, Option, None, inl, inr, refl, sym, ap, ◌∙◌, subst, arith}
 use Rattle.std.proofs.lemmas.Bool.Decides.{nat_tests}
+use Rattle.std.proofs.lemmas.Bool.{and_parts}
 use Rattle.bed_grammar.specs.Grammar.{Rhs, token, empty, seq, alt, ref, Value, Marked, Derives, shift, epsilon, sequence, left, right, expand, Spells, tokens_of, unmarked, IsUnmarked}
-use Rattle.bed_grammar.proofs.Sets.{and_parts, tokens_of-append, unmarked_parts}
+use Rattle.bed_grammar.proofs.Sets.{tokens_of-append, unmarked_parts}
 use Rattle.bed_lang.specs.declared.limit.Which.{Which}
 use Rattle.bed_lex.specs.declared.token.Token.{Token}
 use Rattle.bed_lex.specs.declared.token.Kind.{Kind}

@@ -5,6 +5,8 @@ use Rattle.std.specs.List.{list_all, prefix_len}
 use Rattle.std.specs.Fmt.{decimal}
 use Rattle.std.proofs.Math.Seq.{take-append_seam}
 use Rattle.std.proofs.lemmas.Bool.Decides.{nat_tests}
+use Rattle.std.proofs.lemmas.Bool.{and_parts}
+use Rattle.bed_grammar.proofs.Sets.{eq_is}
 use Rattle.bed_lex.specs.Numbers.{number_value}
 use Rattle.bed_lex.specs.Tokens.{is_letter, is_digit, is_name_byte, is_blank, is_byte_at, fixed_word, mark_at, run_front, front_of}
 use Rattle.bed_lex.specs.Words.{reserved_words, marks, longest_first, fixed_words}
@@ -12,7 +14,7 @@ use Rattle.bed_lex.specs.declared.front.Front.{Front}
 use Rattle.bed_lex.specs.declared.front.Front.TheVariants as front
 use Rattle.bed_read.specs.Classes.{all_name_bytes, is_name, is_none}
 use Rattle.bed_print.proofs.Numbers.{decimal_row, number_value-decimal, decimal-some}
-use Rattle.bed_print.proofs.Bools.{and_first, and_second, or_case, eq_is}
+use Rattle.bed_print.proofs.Bools.{or_case}
 
 -- the bytes that may follow any token without becoming a part of it: line feed, blank, `(`, `)`, `,`, `.`, `:`, `;` and `]`
 abbrev pub is_seam : ℕ → Bool
@@ -81,8 +83,8 @@ fronts c rest h =
 
 word_is : (i n : ℕ) (f : Front) → is_word i n f ≡ true → f ≡ front.Word i n
 word_is i n (front.Word j m) h =
-    let position : j ≡ i = eq_is j i (and_first (nat_eq j i) (nat_eq m n) h) in
-    let size : m ≡ n = eq_is m n (and_second (nat_eq j i) (nat_eq m n) h) in
+    let position : j ≡ i = eq_is j i (and_parts (nat_eq j i) (nat_eq m n) h).0 in
+    let size : m ≡ n = eq_is m n (and_parts (nat_eq j i) (nat_eq m n) h).1 in
     ap (λ z. front.Word z m) position ∙ ap (front.Word i) size
 word_is i n front.End h = absurd (cc)
 word_is i n (front.Skip m) h = absurd (cc)
@@ -100,10 +102,10 @@ front_at_position : (k i c : ℕ) (rest : List ℕ) (ws : List (List ℕ)) (w : 
 front_at_position k i c rest [] w h e = absurd (cc)
 front_at_position zero i c rest (v ∷ ws) w h e =
     let same : v ≡ w = some_is v w e in
-    let here : front_of (v ++ c ∷ rest) ≡ front.Word i (length v) = word_is i (length v) (front_of (v ++ c ∷ rest)) (and_first _ _ h) in
+    let here : front_of (v ++ c ∷ rest) ≡ front.Word i (length v) = word_is i (length v) (front_of (v ++ c ∷ rest)) (and_parts _ _ h).0 in
     subst (λ z. front_of (z ++ c ∷ rest) ≡ front.Word (i + 0) (length z)) same (here ∙ ap (λ n. front.Word n (length v)) (omega arith))
 front_at_position (suc k) i c rest (v ∷ ws) w h e =
-    front_at_position k (suc i) c rest ws w (and_second _ _ h) e ∙ ap (λ n. front.Word n (length w)) (omega arith)
+    front_at_position k (suc i) c rest ws w (and_parts _ _ h).1 e ∙ ap (λ n. front.Word n (length w)) (omega arith)
 
 -- a fixed word before a seam
 pub word_front : (i c : ℕ) (rest w : List ℕ) → is_seam c ≡ true → slice_get fixed_words i ≡ Some w → front_of (w ++ c ∷ rest) ≡ front.Word i (length w)
@@ -142,8 +144,8 @@ seam_no_name c h = seam_case (λ c. is_name_byte c ≡ false) refl refl refl ref
 prefix-seam : (c : ℕ) (w rest : List ℕ) → is_name_byte c ≡ false → all_name_bytes w ≡ true → prefix_len is_name_byte (w ++ c ∷ rest) ≡ length w
 prefix-seam c [] rest n h = rw n refl
 prefix-seam c (b ∷ w) rest n h =
-    let more : prefix_len is_name_byte (w ++ c ∷ rest) ≡ length w = prefix-seam c w rest n (and_second (is_name_byte b) (all_name_bytes w) h) in
-    rw (and_first (is_name_byte b) (all_name_bytes w) h) (omega (arith, more))
+    let more : prefix_len is_name_byte (w ++ c ∷ rest) ≡ length w = prefix-seam c w rest n (and_parts (is_name_byte b) (all_name_bytes w) h).1 in
+    rw (and_parts (is_name_byte b) (all_name_bytes w) h).0 (omega (arith, more))
 
 run-seam : (c : ℕ) (w rest : List ℕ) → is_name_byte c ≡ false → all_name_bytes w ≡ true → take_while is_name_byte (w ++ c ∷ rest) ≡ w
 run-seam c w rest n h = ap (λ k. take k (w ++ c ∷ rest)) (prefix-seam c w rest n h) ∙ take-append_seam w (c ∷ rest)
@@ -163,7 +165,7 @@ run_taken : (b c : ℕ) (w rest : List ℕ) → is_seam c ≡ true → all_name_
 unfolding front_of
 run_taken b c w rest s h =
     let run : take_while is_name_byte ((b ∷ w) ++ c ∷ rest) ≡ b ∷ w = run-seam c (b ∷ w) rest (seam_no_name c s) h in
-    let first : is_name_byte b ≡ true = and_first (is_name_byte b) (all_name_bytes w) h in
+    let first : is_name_byte b ≡ true = (and_parts (is_name_byte b) (all_name_bytes w) h).0 in
     let slash : (nat_eq b 47 && is_byte_at ((b ∷ w) ++ c ∷ rest) 1 47) ≡ false = rw (no_slash b first) refl in
     third _ _ _ _ (nat_eq b 47 && is_byte_at ((b ∷ w) ++ c ∷ rest) 1 47) (is_blank b) (is_name_byte b) slash (no_blank b first) first
     ∙ ap (λ z. run_front (is_digit b) (take (length z) ((b ∷ w) ++ c ∷ rest))) run ∙ ap (run_front (is_digit b)) (take-append_seam (b ∷ w) (c ∷ rest))
@@ -187,25 +189,25 @@ pub named_front : (c : ℕ) (bytes rest : List ℕ) → is_seam c ≡ true → i
 named_front c [] rest s h = absurd (cc)
 named_front c (b ∷ w) rest s h =
     let begins : (is_letter b && all_name_bytes w) ≡ true =
-    and_first (is_letter b && all_name_bytes w) (nat_le (length (b ∷ w)) 255 && is_none (fixed_word (b ∷ w))) h in
+    (and_parts (is_letter b && all_name_bytes w) (nat_le (length (b ∷ w)) 255 && is_none (fixed_word (b ∷ w))) h).0 in
     let ends : (nat_le (length (b ∷ w)) 255 && is_none (fixed_word (b ∷ w))) ≡ true =
-    and_second (is_letter b && all_name_bytes w) (nat_le (length (b ∷ w)) 255 && is_none (fixed_word (b ∷ w))) h in
-    let letter : is_letter b ≡ true = and_first (is_letter b) (all_name_bytes w) begins in
-    let whole : all_name_bytes (b ∷ w) ≡ true = rw letter (and_second (is_letter b) (all_name_bytes w) begins) in
-    let short : nat_le (length (b ∷ w)) 255 ≡ true = and_first (nat_le (length (b ∷ w)) 255) (is_none (fixed_word (b ∷ w))) ends in
-    let free : fixed_word (b ∷ w) ≡ None = none_is (fixed_word (b ∷ w)) (and_second (nat_le (length (b ∷ w)) 255) (is_none (fixed_word (b ∷ w))) ends) in
+    (and_parts (is_letter b && all_name_bytes w) (nat_le (length (b ∷ w)) 255 && is_none (fixed_word (b ∷ w))) h).1 in
+    let letter : is_letter b ≡ true = (and_parts (is_letter b) (all_name_bytes w) begins).0 in
+    let whole : all_name_bytes (b ∷ w) ≡ true = rw letter (and_parts (is_letter b) (all_name_bytes w) begins).1 in
+    let short : nat_le (length (b ∷ w)) 255 ≡ true = (and_parts (nat_le (length (b ∷ w)) 255) (is_none (fixed_word (b ∷ w))) ends).0 in
+    let free : fixed_word (b ∷ w) ≡ None = none_is (fixed_word (b ∷ w)) (and_parts (nat_le (length (b ∷ w)) 255) (is_none (fixed_word (b ∷ w))) ends).1 in
     run_taken b c w rest s whole ∙ rw (letter_no_digit b letter, free, short) refl
 
 digits_are_name_bytes : (ds : List ℕ) → list_all is_digit ds ≡ true → all_name_bytes ds ≡ true
 digits_are_name_bytes [] h = refl
 digits_are_name_bytes (d ∷ ds) h =
-    rw (digit_is_name_byte d (and_first (is_digit d) (list_all is_digit ds) h)) (digits_are_name_bytes ds (and_second (is_digit d) (list_all is_digit ds) h))
+    rw (digit_is_name_byte d (and_parts (is_digit d) (list_all is_digit ds) h).0) (digits_are_name_bytes ds (and_parts (is_digit d) (list_all is_digit ds) h).1)
 
 digits_front : (n c : ℕ) (ds rest : List ℕ) → is_seam c ≡ true → 0 < length ds → list_all is_digit ds ≡ true → number_value ds ≡ Some n
     → front_of (ds ++ c ∷ rest) ≡ front.Number n (length ds)
 digits_front n c [] rest s some digits value = absurd (omega arith)
 digits_front n c (d ∷ ds) rest s some digits value =
-    run_taken d c ds rest s (digits_are_name_bytes (d ∷ ds) digits) ∙ rw (and_first (is_digit d) (list_all is_digit ds) digits, value) refl
+    run_taken d c ds rest s (digits_are_name_bytes (d ∷ ds) digits) ∙ rw ((and_parts (is_digit d) (list_all is_digit ds) digits).0, value) refl
 
 -- a number before a seam
 pub decimal_front : (n c : ℕ) (rest : List ℕ) → is_seam c ≡ true → n < 2 ^ 32 → front_of (decimal n ++ c ∷ rest) ≡ front.Number n (length (decimal n))

@@ -4,6 +4,7 @@ use Rattle.std.specs.Prelude.{take_while}
 use Rattle.std.specs.List.{prefix_len}
 use Rattle.std.specs.Str.{bytes_eq}
 use Rattle.std.proofs.lemmas.List.Quantifiers.{position-Some}
+use Rattle.std.proofs.lemmas.Bool.{and_parts}
 use Rattle.bed_lex.specs.declared.token.Token.{Token}
 use Rattle.bed_lex.specs.declared.token.LexError.{LexError}
 use Rattle.bed_lex.specs.declared.front.Front.{Front}
@@ -14,7 +15,6 @@ use Rattle.bed_lex.specs.Tokens.{is_letter, is_blank, is_name_byte, is_digit, is
 use Rattle.bed_lex.proofs.NumberTokens.{numbers_fit}
 use Rattle.bed_read.specs.Classes.{all_name_bytes, is_name, is_none}
 use Rattle.bed_print.proofs.Clean.{AreLexemes}
-use Rattle.bed_print.proofs.Bools.{and_second}
 
 -- what stands at the front is a token that a text can have, numbers aside
 abbrev IsLexemeFront : List ℕ → Front → Type 0
@@ -68,7 +68,7 @@ run_is_name x xs byte digit free short =
     subst (λ z. is_name z ≡ true) (sym run)
     (rw (
       letter_or_digit (is_letter x) (is_digit x) byte digit,
-      and_second (is_name_byte x) (all_name_bytes rest) whole,
+      (and_parts (is_name_byte x) (all_name_bytes rest) whole).1,
       subst (λ z. nat_le (length z) 255 ≡ true) run short,
       no_position (fixed_word (x ∷ rest)) (subst (λ z. fixed_word z ≡ None) run free),
     ) refl)

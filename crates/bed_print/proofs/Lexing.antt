@@ -3,6 +3,8 @@ use Rattle.std.proofs.Common.{◌≡◌, ℕ, suc, zero, ◌+◌, ◌<◌, Bool,
 use Rattle.std.specs.Prelude.{slice_get, unwrap_or}
 use Rattle.std.specs.Fmt.{decimal}
 use Rattle.std.proofs.Math.Seq.{drop-append_seam, take-append_seam}
+use Rattle.std.proofs.lemmas.Bool.{and_parts}
+use Rattle.bed_grammar.proofs.Sets.{eq_is}
 use Rattle.bed_lex.specs.declared.token.Token.{Token}
 use Rattle.bed_lex.specs.declared.token.Kind.{Kind}
 use Rattle.bed_lex.specs.declared.token.Kind.TheVariants as kind
@@ -13,7 +15,7 @@ use Rattle.bed_read.specs.Classes.{kind_class, IsKindOfText, LEFT_PAREN, RIGHT_P
 use Rattle.bed_print.proofs.Places.{bare_kind}
 use Rattle.bed_print.specs.Layout.{bytes_of, holds_next, holds_last, takes_list, touch, ends_line, indentation, gap, gap_after, depth_after, text_from, text_of}
 use Rattle.bed_print.proofs.Fronts.{is_seam, word_front, left_paren_front, left_bracket_front, ampersand_front, blank_front, line_front, end_front, named_front, decimal_front}
-use Rattle.bed_print.proofs.Bools.{and_second, or_case, by_test, eq_is}
+use Rattle.bed_print.proofs.Bools.{or_case, by_test}
 
 -- what the tokens of a text can be
 abbrev pub AreKinds : List Kind → Type 0
@@ -214,7 +216,7 @@ follows d a (k ∷ ks) are = by_test (MayPrecede a (text_from d (Some a) (k ∷ 
         or_case (MayPrecede a (text_from d (Some a) (k ∷ ks))) (holds_next a) (holds_last (kind_class k) || (takes_list a && nat_eq (kind_class k) LEFT_PAREN)) t (λ h. inl h) (λ t1.
         or_case (MayPrecede a (text_from d (Some a) (k ∷ ks))) (holds_last (kind_class k)) (takes_list a && nat_eq (kind_class k) LEFT_PAREN) t1
         (λ h. inr (at (holding_seam k rest are.0 h)))
-        (λ h. inr (at (list_seam k rest are.0 (and_second (takes_list a) (nat_eq (kind_class k) LEFT_PAREN) h)))))
+        (λ h. inr (at (list_seam k rest are.0 (and_parts (takes_list a) (nat_eq (kind_class k) LEFT_PAREN) h).1))))
       where
         at : BeginsSeam (bytes_of k ++ rest) → BeginsSeam (text_from d (Some a) (k ∷ ks))
         at b = rw t b

@@ -6,9 +6,9 @@ use Rattle.std.specs.Fmt.{decimal}
 use Rattle.std.proofs.lemmas.Fmt.{decimal_by_steps, decimal_nonempty}
 use Rattle.std.proofs.lemmas.List.Folds.{list_all-append}
 use Rattle.std.proofs.lemmas.Bool.Decides.{nat_tests}
+use Rattle.std.proofs.lemmas.Bool.{and_parts}
 use Rattle.bed_lex.specs.Numbers.{digits_value, decimal_digit, that_fits, number_value, is_between}
 use Rattle.bed_lex.specs.Tokens.{is_digit}
-use Rattle.bed_print.proofs.Bools.{and_first, and_second}
 
 -- digits after digits
 digits-append : (m : ℕ) (xs ys : List ℕ) → digits_value false m (xs ++ ys) ≡ option_and_then (λ v. digits_value false v ys) (digits_value false m xs)
@@ -63,7 +63,7 @@ row_number : (n : ℕ) (ds : List ℕ) → n < 2 ^ 32 → IsRow n ds → number_
 row_number n [] h (value, digits) = ap that_fits value ∙ fits n h
 row_number n (a ∷ []) h (value, digits) = ap that_fits value ∙ fits n h
 row_number n (a ∷ b ∷ bs) h (value, digits) =
-    rw (no_x b (and_first (is_digit b) (list_all is_digit bs) (and_second (is_digit a) (is_digit b && list_all is_digit bs) digits)))
+    rw (no_x b (and_parts (is_digit b) (list_all is_digit bs) (and_parts (is_digit a) (is_digit b && list_all is_digit bs) digits).1).0)
     (by_first (nat_eq a 48))
   where
     by_first : (t : Bool) → (if (t && false) && nat_lt 0 (length bs) then that_fits (digits_value true 0 bs) else that_fits (digits_value false 0 (a ∷ b ∷ bs))) ≡ Some n

@@ -1,8 +1,9 @@
 -- Printed texts of the grammar's smallest parts.
 use Rattle.std.proofs.Common.{◌≡◌, ℕ, ◌+◌, ◌-◌, ◌<◌, ◌^◌, Bool, true, false, ◌&&◌, nat_eq, nat_le, nat_lt, cond, List, [], ◌∷◌, ◌++◌, Option, None, inl, inr, refl, sym, ap, subst, arith}
 use Rattle.std.proofs.lemmas.Bool.Decides.{nat_tests}
+use Rattle.std.proofs.lemmas.Bool.{and_parts}
 use Rattle.bed_grammar.specs.Grammar.{token, empty, ref}
-use Rattle.bed_grammar.proofs.Sets.{and_parts}
+use Rattle.bed_grammar.proofs.Sets.{eq_is}
 use Rattle.bed_lang.specs.declared.word.Name.{Name}
 use Rattle.bed_lang.specs.declared.word.Word.{Word}
 use Rattle.bed_lang.specs.declared.limit.Which.{Which}
@@ -17,7 +18,7 @@ use Rattle.bed_print.specs.Kinds.{fixed}
 use Rattle.bed_print.proofs.Places.{bare_name}
 use Rattle.bed_print.proofs.Nonterminals.{placed, sign_kind}
 use Rattle.bed_print.proofs.Clean.{Prints, prints_seq, prints_token, prints_empty, prints_left, prints_right, prints_rule}
-use Rattle.bed_print.proofs.Bools.{eq_is, lt_is}
+use Rattle.bed_print.proofs.Bools.{lt_is}
 
 -- a class of a fixed word
 abbrev pub is_fixed : ℕ → Bool

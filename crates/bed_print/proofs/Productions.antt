@@ -3,6 +3,7 @@ use Rattle.std.proofs.Common.{◌≡◌, ℕ, suc, ◌+◌, ◌-◌, ◌*◌, �
 use Rattle.std.specs.Str.{bytes_eq}
 use Rattle.std.proofs.lemmas.Slice.Eq.{bytes_eq-Decides}
 use Rattle.std.proofs.lemmas.Bool.Decides.{nat_tests}
+use Rattle.std.specs.Option.{option_or}
 use Rattle.bed_grammar.specs.Grammar.{token, empty, ref, Value, Derives, unmarked}
 use Rattle.bed_grammar.proofs.Derivations as derivations
 use Rattle.bed_grammar.proofs.Sets.{tokens_of-unmarked, unmarked-is}
@@ -31,7 +32,7 @@ use Rattle.bed_read.specs.declared.parts.Source.TheVariants as source
 use Rattle.bed_read.specs.Classes.{kind_class, is_name, IsKindOfText, RESERVING, FOR, PREDICATE, EXISTS, DOT, EQUAL, SEMICOLON, COMMA, BAR, PLUS, ASSIGN, ARROW, BYTE_ARROW, ELSE, LEFT_PAREN, RIGHT_PAREN, LEFT_BRACKET, RIGHT_BRACKET, BYTE, HOLE, CALL, SIGNATURE}
 use Rattle.bed_read.specs.Trees.{number_of, name_of, moved, word_of, place_of, added, joined, summed, word_argument, compared, membership, points_to, cell_at, assigned}
 use Rattle.bed_read.specs.Written as grammar
-use Rattle.bed_read.specs.Written.{N, Tree, written, written_rule, written_action, past, or_mark}
+use Rattle.bed_read.specs.Written.{N, Tree, written, written_rule, written_action, past}
 use Rattle.bed_print.specs.Kinds.{fixed, each_after, parted, name_kinds, export_kinds, word_kinds, seq_kinds, is_name_layer, is_name_alone, arg_kinds, pure_kinds, binds_kinds, exists_kinds, for_kinds, assertion_kinds, predicate_kinds, rel_kind, operand_kinds, via_kinds, place_kinds, stmt_kinds, body_kinds, else_kinds}
 use Rattle.bed_print.proofs.Places.{bare_name, bare_word}
 use Rattle.bed_print.proofs.Nonterminals.{placed, membership_kind, source_kinds, bare, bare_value, spell, spell_value}
@@ -91,7 +92,7 @@ is_plain (grammar.Tail n) = false
 is_plain grammar.Arrow = false
 is_plain n = true
 
-no : {A : Type 0} → ◌≡◌ {A = Bool} false true → A
+pub no : {A : Type 0} → ◌≡◌ {A = Bool} false true → A
 no e = absurd (cc)
 
 prints : (n : N) → is_plain n ≡ true → (v : Tree n) → Printed n v → Prints (ref n) (spell n v) (bare n v)
@@ -151,7 +152,7 @@ no_name_class : (n : ℕ) (b : Bool) → number_class b ≡ 0 → ⊥
 no_name_class n true e = let one : ◌≡◌ {A = ℕ} 1 0 = e in omega (arith, one)
 no_name_class n false e = let two : ◌≡◌ {A = ℕ} 2 0 = e in omega (arith, two)
 
-name_is : (k : Kind) → kind_class k ≡ 0 → IsKindOfText k → is_name (name_of k).bytes ≡ true
+pub name_is : (k : Kind) → kind_class k ≡ 0 → IsKindOfText k → is_name (name_of k).bytes ≡ true
 name_is (kind.Name x) e is = is
 name_is (kind.Number n) e is = absurd (no_name_class n (nat_le n 4096) e)
 name_is (kind.Word w) e is = absurd (omega (arith, e))
@@ -293,7 +294,7 @@ sum_fits m n p bs part rest = (
 )
 
 -- a bracket within the limits
-may_open : (m : Option Which) (n : ℕ) → or_mark m (past limit.Nesting n) ≡ None → (m ≡ None) × (n ≡ n - 1 + 1)
+may_open : (m : Option Which) (n : ℕ) → option_or m (past limit.Nesting n) ≡ None → (m ≡ None) × (n ≡ n - 1 + 1)
 may_open (Some w) n e = absurd (never_past w e)
 may_open None n e = (refl, by (nat_eq n 0) refl)
   where
@@ -301,7 +302,7 @@ may_open None n e = (refl, by (nat_eq n 0) refl)
     by true f = absurd (never_past limit.Nesting (sym (ap (λ b. if b then Some limit.Nesting else None) f) ∙ e))
     by false f = grind (arith, nat_tests)
 
-times_fits : (m : Option Which) (n v : ℕ) (w : word.Word) (at : ℕ) → or_mark m (past limit.Nesting n) ≡ None → v < 2 ^ 32 → Fits w (n - 1) 255
+times_fits : (m : Option Which) (n v : ℕ) (w : word.Word) (at : ℕ) → option_or m (past limit.Nesting n) ≡ None → v < 2 ^ 32 → Fits w (n - 1) 255
     → Printed (grammar.Part m n) (piece.Word at (word.Times v w))
 times_fits m n v w at e small fits =
     let o = may_open m n e in
@@ -310,7 +311,7 @@ times_fits m n v w at e small fits =
     up : (j n : ℕ) → n ≡ j + 1 → suc j ≡ n
     up j n e = omega (arith, e)
 
-bracket_fits : (m : Option Which) (n : ℕ) (w : word.Word) (at : ℕ) → or_mark m (past limit.Nesting n) ≡ None → Fits w (n - 1) 255
+bracket_fits : (m : Option Which) (n : ℕ) (w : word.Word) (at : ℕ) → option_or m (past limit.Nesting n) ≡ None → Fits w (n - 1) 255
     → Printed (grammar.Part m n) (piece.Word at w)
 bracket_fits m n w at e fits =
     let o = may_open m n e in

@@ -1,12 +1,12 @@
 -- Trees that are equal with every place set to 0 are the same, wherever they and their parts stand.
-use Rattle.std.proofs.Common.{◌≡◌, ℕ, Bool, true, false, ◌==◌, ◌&&◌, nat_eq, List, [], ◌∷◌, map, Option, Some, None, refl, sym, ap, ◌∙◌, subst}
+use Rattle.std.proofs.Common.{◌≡◌, ℕ, Bool, true, false, ◌==◌, nat_eq, List, [], ◌∷◌, map, Option, Some, None, refl, sym, ap, ◌∙◌, subst}
 use Rattle.std.specs.Cmp.{unsigned_Decides}
 use Rattle.std.specs.Cmp.Lexicographic.{pointwise}
 use Rattle.std.proofs.lemmas.Slice.Eq.{bytes_eq-Decides}
+use Rattle.std.specs.Cmp.Derive.{both_true}
 use Rattle.bed_lang.specs.declared.word.Name.{Name}
 use Rattle.bed_lang.specs.declared.word.Sort.{Sort}
 use Rattle.bed_lang.specs.declared.word.Sort.TheVariants as sort
-use Rattle.bed_lang.specs.declared.word.Var.{Var}
 use Rattle.bed_lang.specs.declared.word.Var.TheVariants as var
 use Rattle.bed_lang.specs.declared.word.Word.{Word, out-Word, roll-Word, out-roll-Word, map-Word, ind-Word, fold-roll-Word}
 use Rattle.bed_lang.specs.declared.word.Word.TheOpen.{Word-F}
@@ -14,15 +14,10 @@ use Rattle.bed_lang.specs.declared.word.Word.TheVariants.{rolls-Number, rolls-Va
 use Rattle.bed_lang.specs.declared.word.Seq.{Seq, out-Seq, roll-Seq, out-roll-Seq, map-Seq, ind-Seq, fold-roll-Seq}
 use Rattle.bed_lang.specs.declared.word.Seq.TheOpen.{Seq-F}
 use Rattle.bed_lang.specs.declared.word.Seq.TheVariants.{rolls-Var as seq_rolls-Var, rolls-Nil, rolls-Cons, rolls-App}
-use Rattle.bed_lang.specs.declared.logic.Arg.{Arg}
 use Rattle.bed_lang.specs.declared.logic.Arg.TheVariants as arg
-use Rattle.bed_lang.specs.declared.logic.Pure.{Pure}
 use Rattle.bed_lang.specs.declared.logic.Pure.TheVariants as pure
-use Rattle.bed_lang.specs.declared.logic.Atom.{Atom}
 use Rattle.bed_lang.specs.declared.logic.Atom.TheVariants as atom
-use Rattle.bed_lang.specs.declared.logic.Term.{Term}
 use Rattle.bed_lang.specs.declared.logic.Term.TheVariants as term
-use Rattle.bed_lang.specs.declared.logic.Bind.{Bind}
 use Rattle.bed_lang.specs.declared.logic.Assertion.{Assertion}
 use Rattle.bed_lang.specs.declared.module.Operand.{Operand}
 use Rattle.bed_lang.specs.declared.module.Operand.TheVariants as operand
@@ -30,11 +25,6 @@ use Rattle.bed_lang.specs.declared.module.Op.{Op}
 use Rattle.bed_lang.specs.declared.module.Op.TheVariants as op
 use Rattle.bed_lang.specs.declared.module.Rel.{Rel}
 use Rattle.bed_lang.specs.declared.module.Rel.TheVariants as rel
-use Rattle.bed_lang.specs.declared.module.Signature.{Signature}
-use Rattle.bed_lang.specs.declared.module.Predicate.{Predicate}
-use Rattle.bed_lang.specs.declared.module.Import.{Import}
-use Rattle.bed_lang.specs.declared.module.Function.{Function}
-use Rattle.bed_lang.specs.declared.module.Module.{Module}
 use Rattle.bed_lang.specs.declared.module.Place.{Place}
 use Rattle.bed_lang.specs.declared.module.Test.{Test}
 use Rattle.bed_lang.specs.declared.module.Hint.{Hint}
@@ -44,11 +34,9 @@ use Rattle.bed_lang.specs.declared.statement.Stmt.{Stmt, ind-Stmt, fold-roll-Stm
 use Rattle.bed_lang.specs.declared.statement.StmtKind.{StmtKind, StmtKind-F, out-StmtKind, roll-StmtKind, out-roll-StmtKind, map-StmtKind, ind-StmtKind, fold-roll-StmtKind}
 use Rattle.bed_lang.specs.declared.statement.StmtKind.TheVariants.{rolls-Assign, rolls-Compute, rolls-Load, rolls-LoadByte, rolls-Store, rolls-StoreByte, rolls-Call, rolls-If, rolls-While, rolls-Return, rolls-Hint, rolls-Find, rolls-Walk}
 use Rattle.bed_lang.specs.Same.{same_option, same_flag, same_sort, same_name, same_var, same_word_layer, same_word, same_seq_layer, same_seq, same_arg, same_pure, same_atom, same_term, same_bind, same_assertion, same_operand, same_op, same_rel, same_signature, same_predicate, same_import, same_place, same_test, same_hint, same_join, accepts_all, same_kind_layer, same_kind_step, same_stmt_step, same_kind, same_stmt, same_function, same_module}
+use Rattle.bed_lang.proofs.RollLaws.{same_word-roll, same_seq-roll}
 use Rattle.bed_print.proofs.Places.{bare_option, bare_name, bare_var, bare_word_step, bare_word, bare_seq_step, bare_seq, bare_arg, bare_pure, bare_atom, bare_term, bare_bind, bare_assertion, bare_operand, bare_place, bare_test, bare_hint, bare_join, bare_kind_step, bare_stmt_step, bare_stmt_kind, bare_stmt, bare_signature, bare_predicate, bare_import, bare_function, bare_module}
 use Rattle.bed_print.proofs.StmtTrees.{bare_stmt-of}
-
-both : {a b : Bool} → a ≡ true → b ≡ true → (a && b) ≡ true
-both e f = rw (e, f) refl
 
 -- a test accepts trees that are equal, places aside
 abbrev Accepts : {T : Type 0} → (T → T) → (T → T → Bool) → Type 0
@@ -61,7 +49,7 @@ lists bare same h (x ∷ xs) [] e = absurd (cc)
 lists bare same h (x ∷ xs) (y ∷ ys) e =
     let head : bare x ≡ bare y = cc in
     let rest : map bare xs ≡ map bare ys = cc in
-    both (h x y head) (lists bare same h xs ys rest)
+    both_true (h x y head) (lists bare same h xs ys rest)
 
 options : {T : Type 0} (bare : T → T) (same : T → T → Bool) → Accepts bare same → (x y : Option T) → bare_option bare x ≡ bare_option bare y → same_option same x y ≡ true
 options bare same h None None e = refl
@@ -150,11 +138,6 @@ word_parts x =
     ap out-Word (fold-roll-Word Word bare_word_step x ∙ word_rolled (map-Word Word Word bare_word x))
     ∙ out-roll-Word (bare_word_layer (map-Word Word Word bare_word x))
 
-word_test : (x z : Word-F Word) → same_word (roll-Word x) (roll-Word z) ≡ same_word_layer (map-Word Word (Word → Bool) same_word x) z
-word_test x z =
-    ap (λ f. f (roll-Word z)) (fold-roll-Word (Word → Bool) (λ y. λ w. same_word_layer y (out-Word w)) x)
-    ∙ ap (same_word_layer (map-Word Word (Word → Bool) same_word x)) (out-roll-Word z)
-
 abbrev SameWord : Word → Type 0
 SameWord a = (b : Word) → bare_word a ≡ bare_word b → same_word a b ≡ true
 
@@ -167,15 +150,15 @@ word_layers (Word-F.Label x) (Word-F.Label y) e = let f : bare_name x ≡ bare_n
 word_layers (Word-F.Add a b) (Word-F.Add c d) e =
     let f : bare_word a.0 ≡ bare_word c = cc in
     let g : bare_word b.0 ≡ bare_word d = cc in
-    both (a.1 c f) (b.1 d g)
+    both_true (a.1 c f) (b.1 d g)
 word_layers (Word-F.Sub a b) (Word-F.Sub c d) e =
     let f : bare_word a.0 ≡ bare_word c = cc in
     let g : bare_word b.0 ≡ bare_word d = cc in
-    both (a.1 c f) (b.1 d g)
+    both_true (a.1 c f) (b.1 d g)
 word_layers (Word-F.Times n a) (Word-F.Times m b) e =
     let f : n ≡ m = cc in
     let g : bare_word a.0 ≡ bare_word b = cc in
-    both (numbers n m f) (a.1 b g)
+    both_true (numbers n m f) (a.1 b g)
 word_layers (Word-F.Number n) _ e = absurd (cc)
 word_layers (Word-F.Var x) _ e = absurd (cc)
 word_layers (Word-F.Label x) _ e = absurd (cc)
@@ -188,7 +171,7 @@ WordsAgree a b = bare_word a ≡ bare_word b → same_word a b ≡ true
 
 word_step : (y : Word-F ((a : Word) × SameWord a)) (b : Word) → WordsAgree (roll-Word (map-Word _ _ (λ p. p.0) y)) b
 word_step y = ind-Word (WordsAgree (roll-Word (map-Word _ _ (λ p. p.0) y))) (λ z pairs f. λ e.
-    word_test (map-Word _ _ (λ p. p.0) y) z
+    same_word-roll (map-Word _ _ (λ p. p.0) y) z
     ∙ word_layers y z (sym (word_parts (map-Word _ _ (λ p. p.0) y)) ∙ ap out-Word e ∙ word_parts z))
 
 words : Accepts bare_word same_word
@@ -211,11 +194,6 @@ seq_parts x =
     ap out-Seq (fold-roll-Seq Seq bare_seq_step x ∙ seq_rolled (map-Seq Seq Seq bare_seq x))
     ∙ out-roll-Seq (bare_seq_layer (map-Seq Seq Seq bare_seq x))
 
-seq_test : (x z : Seq-F Seq) → same_seq (roll-Seq x) (roll-Seq z) ≡ same_seq_layer (map-Seq Seq (Seq → Bool) same_seq x) z
-seq_test x z =
-    ap (λ f. f (roll-Seq z)) (fold-roll-Seq (Seq → Bool) (λ y. λ s. same_seq_layer y (out-Seq s)) x)
-    ∙ ap (same_seq_layer (map-Seq Seq (Seq → Bool) same_seq x)) (out-roll-Seq z)
-
 abbrev SameSeq : Seq → Type 0
 SameSeq a = (b : Seq) → bare_seq a ≡ bare_seq b → same_seq a b ≡ true
 
@@ -227,11 +205,11 @@ seq_layers Seq-F.Nil Seq-F.Nil e = refl
 seq_layers (Seq-F.Cons a s) (Seq-F.Cons b t) e =
     let f : bare_word a ≡ bare_word b = cc in
     let g : bare_seq s.0 ≡ bare_seq t = cc in
-    both (words a b f) (s.1 t g)
+    both_true (words a b f) (s.1 t g)
 seq_layers (Seq-F.App r s) (Seq-F.App t u) e =
     let f : bare_seq r.0 ≡ bare_seq t = cc in
     let g : bare_seq s.0 ≡ bare_seq u = cc in
-    both (r.1 t f) (s.1 u g)
+    both_true (r.1 t f) (s.1 u g)
 seq_layers (Seq-F.Var x) _ e = absurd (cc)
 seq_layers Seq-F.Nil _ e = absurd (cc)
 seq_layers (Seq-F.Cons a s) _ e = absurd (cc)
@@ -242,7 +220,7 @@ SeqsAgree a b = bare_seq a ≡ bare_seq b → same_seq a b ≡ true
 
 seq_step : (y : Seq-F ((a : Seq) × SameSeq a)) (b : Seq) → SeqsAgree (roll-Seq (map-Seq _ _ (λ p. p.0) y)) b
 seq_step y = ind-Seq (SeqsAgree (roll-Seq (map-Seq _ _ (λ p. p.0) y))) (λ z pairs f. λ e.
-    seq_test (map-Seq _ _ (λ p. p.0) y) z
+    same_seq-roll (map-Seq _ _ (λ p. p.0) y) z
     ∙ seq_layers y z (sym (seq_parts (map-Seq _ _ (λ p. p.0) y)) ∙ ap out-Seq e ∙ seq_parts z))
 
 seqs : Accepts bare_seq same_seq
@@ -268,35 +246,35 @@ pures : Accepts bare_pure same_pure
 pures (pure.Equal x0 x1) (pure.Equal y0 y1) e =
     let e0 : bare_word x0 ≡ bare_word y0 = cc in
     let e1 : bare_word x1 ≡ bare_word y1 = cc in
-    both (words x0 y0 e0) (words x1 y1 e1)
+    both_true (words x0 y0 e0) (words x1 y1 e1)
 pures (pure.Unequal x0 x1) (pure.Unequal y0 y1) e =
     let e0 : bare_word x0 ≡ bare_word y0 = cc in
     let e1 : bare_word x1 ≡ bare_word y1 = cc in
-    both (words x0 y0 e0) (words x1 y1 e1)
+    both_true (words x0 y0 e0) (words x1 y1 e1)
 pures (pure.Less x0 x1) (pure.Less y0 y1) e =
     let e0 : bare_word x0 ≡ bare_word y0 = cc in
     let e1 : bare_word x1 ≡ bare_word y1 = cc in
-    both (words x0 y0 e0) (words x1 y1 e1)
+    both_true (words x0 y0 e0) (words x1 y1 e1)
 pures (pure.AtMost x0 x1) (pure.AtMost y0 y1) e =
     let e0 : bare_word x0 ≡ bare_word y0 = cc in
     let e1 : bare_word x1 ≡ bare_word y1 = cc in
-    both (words x0 y0 e0) (words x1 y1 e1)
+    both_true (words x0 y0 e0) (words x1 y1 e1)
 pures (pure.Same x0 x1) (pure.Same y0 y1) e =
     let e0 : bare_seq x0 ≡ bare_seq y0 = cc in
     let e1 : bare_seq x1 ≡ bare_seq y1 = cc in
-    both (seqs x0 y0 e0) (seqs x1 y1 e1)
+    both_true (seqs x0 y0 e0) (seqs x1 y1 e1)
 pures (pure.Member x0 x1) (pure.Member y0 y1) e =
     let e0 : bare_word x0 ≡ bare_word y0 = cc in
     let e1 : bare_seq x1 ≡ bare_seq y1 = cc in
-    both (words x0 y0 e0) (seqs x1 y1 e1)
+    both_true (words x0 y0 e0) (seqs x1 y1 e1)
 pures (pure.NonMember x0 x1) (pure.NonMember y0 y1) e =
     let e0 : bare_word x0 ≡ bare_word y0 = cc in
     let e1 : bare_seq x1 ≡ bare_seq y1 = cc in
-    both (words x0 y0 e0) (seqs x1 y1 e1)
+    both_true (words x0 y0 e0) (seqs x1 y1 e1)
 pures (pure.Code x0 x1) (pure.Code y0 y1) e =
     let e0 : bare_word x0 ≡ bare_word y0 = cc in
     let e1 : bare_name x1 ≡ bare_name y1 = cc in
-    both (words x0 y0 e0) (names x1 y1 e1)
+    both_true (words x0 y0 e0) (names x1 y1 e1)
 pures (pure.Equal x0 x1) _ e = absurd (cc)
 pures (pure.Unequal x0 x1) _ e = absurd (cc)
 pures (pure.Less x0 x1) _ e = absurd (cc)
@@ -310,19 +288,19 @@ atoms : Accepts bare_atom same_atom
 atoms (atom.Cell x0 x1) (atom.Cell y0 y1) e =
     let e0 : bare_word x0 ≡ bare_word y0 = cc in
     let e1 : bare_word x1 ≡ bare_word y1 = cc in
-    both (words x0 y0 e0) (words x1 y1 e1)
+    both_true (words x0 y0 e0) (words x1 y1 e1)
 atoms (atom.Byte x0 x1) (atom.Byte y0 y1) e =
     let e0 : bare_word x0 ≡ bare_word y0 = cc in
     let e1 : bare_word x1 ≡ bare_word y1 = cc in
-    both (words x0 y0 e0) (words x1 y1 e1)
+    both_true (words x0 y0 e0) (words x1 y1 e1)
 atoms (atom.Block x0 x1) (atom.Block y0 y1) e =
     let e0 : bare_word x0 ≡ bare_word y0 = cc in
     let e1 : bare_word x1 ≡ bare_word y1 = cc in
-    both (words x0 y0 e0) (words x1 y1 e1)
+    both_true (words x0 y0 e0) (words x1 y1 e1)
 atoms (atom.Pred x0 x1) (atom.Pred y0 y1) e =
     let e0 : bare_name x0 ≡ bare_name y0 = cc in
     let e1 : map bare_arg x1 ≡ map bare_arg y1 = cc in
-    both (names x0 y0 e0) (lists bare_arg same_arg args x1 y1 e1)
+    both_true (names x0 y0 e0) (lists bare_arg same_arg args x1 y1 e1)
 atoms (atom.Cell x0 x1) _ e = absurd (cc)
 atoms (atom.Byte x0 x1) _ e = absurd (cc)
 atoms (atom.Block x0 x1) _ e = absurd (cc)
@@ -341,11 +319,11 @@ terms (term.Pure x0) _ e = absurd (cc)
 terms (term.Atom x0) _ e = absurd (cc)
 
 binds : Accepts bare_bind same_bind
-binds x y e = both (names x.name y.name (ap (λ z. z.name) e)) (sorts x.sort y.sort (ap (λ z. z.sort) e))
+binds x y e = both_true (names x.name y.name (ap (λ z. z.name) e)) (sorts x.sort y.sort (ap (λ z. z.sort) e))
 
 assertions : Accepts bare_assertion same_assertion
 assertions x y e =
-    both (lists bare_bind same_bind binds x.binders y.binders (ap (λ z. z.binders) e)) (lists bare_term same_term terms x.terms y.terms (ap (λ z. z.terms) e))
+    both_true (lists bare_bind same_bind binds x.binders y.binders (ap (λ z. z.binders) e)) (lists bare_term same_term terms x.terms y.terms (ap (λ z. z.terms) e))
 
 -- ---- statements
 
@@ -364,11 +342,11 @@ operands (operand.Local x0) _ e = absurd (cc)
 operands (operand.Label x0) _ e = absurd (cc)
 
 places : Accepts bare_place same_place
-places x y e = both (operands x.base y.base (ap (λ z. z.base) e)) (numbers x.disp y.disp (ap (λ z. z.disp) e))
+places x y e = both_true (operands x.base y.base (ap (λ z. z.base) e)) (numbers x.disp y.disp (ap (λ z. z.disp) e))
 
 tests : Accepts bare_test same_test
 tests x y e =
-    both (rels x.rel y.rel (ap (λ z. z.rel) e)) (both (operands x.left y.left (ap (λ z. z.left) e)) (operands x.right y.right (ap (λ z. z.right) e)))
+    both_true (rels x.rel y.rel (ap (λ z. z.rel) e)) (both_true (operands x.left y.left (ap (λ z. z.left) e)) (operands x.right y.right (ap (λ z. z.right) e)))
 
 joins : Accepts bare_join same_join
 joins x y e = assertions x.assertion y.assertion (ap (λ z. z.assertion) e)
@@ -377,23 +355,23 @@ hints : Accepts bare_hint same_hint
 hints (hint.Unfold x0 x1) (hint.Unfold y0 y1) e =
     let e0 : bare_name x0 ≡ bare_name y0 = cc in
     let e1 : bare_option bare_word x1 ≡ bare_option bare_word y1 = cc in
-    both (names x0 y0 e0) (options bare_word same_word words x1 y1 e1)
+    both_true (names x0 y0 e0) (options bare_word same_word words x1 y1 e1)
 hints (hint.Fold x0 x1 x2) (hint.Fold y0 y1 y2) e =
     let e0 : bare_name x0 ≡ bare_name y0 = cc in
     let e1 : map bare_arg x1 ≡ map bare_arg y1 = cc in
     let e2 : x2 ≡ y2 = cc in
-    both (names x0 y0 e0) (both (lists bare_arg same_arg args x1 y1 e1) (numbers x2 y2 e2))
+    both_true (names x0 y0 e0) (both_true (lists bare_arg same_arg args x1 y1 e1) (numbers x2 y2 e2))
 hints (hint.Append x0) (hint.Append y0) e =
     let e0 : bare_word x0 ≡ bare_word y0 = cc in
     words x0 y0 e0
 hints (hint.Divide x0 x1) (hint.Divide y0 y1) e =
     let e0 : bare_word x0 ≡ bare_word y0 = cc in
     let e1 : bare_word x1 ≡ bare_word y1 = cc in
-    both (words x0 y0 e0) (words x1 y1 e1)
+    both_true (words x0 y0 e0) (words x1 y1 e1)
 hints (hint.Merge x0 x1) (hint.Merge y0 y1) e =
     let e0 : bare_word x0 ≡ bare_word y0 = cc in
     let e1 : bare_word x1 ≡ bare_word y1 = cc in
-    both (words x0 y0 e0) (words x1 y1 e1)
+    both_true (words x0 y0 e0) (words x1 y1 e1)
 hints (hint.Bytes x0) (hint.Bytes y0) e =
     let e0 : bare_word x0 ≡ bare_word y0 = cc in
     words x0 y0 e0
@@ -418,7 +396,7 @@ hints (hint.When x0) (hint.When y0) e =
 hints (hint.Give x0 x1) (hint.Give y0 y1) e =
     let e0 : bare_name x0 ≡ bare_name y0 = cc in
     let e1 : bare_arg x1 ≡ bare_arg y1 = cc in
-    both (names x0 y0 e0) (args x1 y1 e1)
+    both_true (names x0 y0 e0) (args x1 y1 e1)
 hints (hint.Unfold x0 x1) _ e = absurd (cc)
 hints (hint.Fold x0 x1 x2) _ e = absurd (cc)
 hints (hint.Append x0) _ e = absurd (cc)
@@ -566,37 +544,37 @@ bodies (x ∷ xs) [] e = absurd (cc)
 bodies (x ∷ xs) (y ∷ ys) e =
     let head : bare_stmt x.0 ≡ bare_stmt y = cc in
     let rest : map bare_stmt (trees_of xs) ≡ map bare_stmt ys = cc in
-    both (x.1 y head) (bodies xs ys rest)
+    both_true (x.1 y head) (bodies xs ys rest)
 
 kind_layers : (y : StmtKind-F Kinds Stmts) (z : StmtKind-F StmtKind Stmt) → bare_kind_layer (bare_below (trees y)) ≡ bare_kind_layer (bare_below z)
     → same_kind_layer (test_below (trees y)) z ≡ true
 kind_layers (StmtKind-F.Assign x0 x1) (StmtKind-F.Assign y0 y1) e =
     let p = parts-Assign (bare_name x0) (bare_name y0) (bare_operand x1) (bare_operand y1) e in
-    both (names x0 y0 p.0) (operands x1 y1 p.1)
+    both_true (names x0 y0 p.0) (operands x1 y1 p.1)
 kind_layers (StmtKind-F.Compute x0 x1 x2 x3) (StmtKind-F.Compute y0 y1 y2 y3) e =
     let p = parts-Compute (bare_name x0) (bare_name y0) x1 y1 (bare_operand x2) (bare_operand y2) (bare_operand x3) (bare_operand y3) e in
-    both (names x0 y0 p.0) (both (ops x1 y1 p.1) (both (operands x2 y2 p.2) (operands x3 y3 p.3)))
+    both_true (names x0 y0 p.0) (both_true (ops x1 y1 p.1) (both_true (operands x2 y2 p.2) (operands x3 y3 p.3)))
 kind_layers (StmtKind-F.Load x0 x1) (StmtKind-F.Load y0 y1) e =
     let p = parts-Load (bare_name x0) (bare_name y0) (bare_place x1) (bare_place y1) e in
-    both (names x0 y0 p.0) (places x1 y1 p.1)
+    both_true (names x0 y0 p.0) (places x1 y1 p.1)
 kind_layers (StmtKind-F.LoadByte x0 x1) (StmtKind-F.LoadByte y0 y1) e =
     let p = parts-LoadByte (bare_name x0) (bare_name y0) (bare_place x1) (bare_place y1) e in
-    both (names x0 y0 p.0) (places x1 y1 p.1)
+    both_true (names x0 y0 p.0) (places x1 y1 p.1)
 kind_layers (StmtKind-F.Store x0 x1) (StmtKind-F.Store y0 y1) e =
     let p = parts-Store (bare_place x0) (bare_place y0) (bare_operand x1) (bare_operand y1) e in
-    both (places x0 y0 p.0) (operands x1 y1 p.1)
+    both_true (places x0 y0 p.0) (operands x1 y1 p.1)
 kind_layers (StmtKind-F.StoreByte x0 x1) (StmtKind-F.StoreByte y0 y1) e =
     let p = parts-StoreByte (bare_place x0) (bare_place y0) (bare_operand x1) (bare_operand y1) e in
-    both (places x0 y0 p.0) (operands x1 y1 p.1)
+    both_true (places x0 y0 p.0) (operands x1 y1 p.1)
 kind_layers (StmtKind-F.Call x0 x1 x2 x3 x4 x5 x6) (StmtKind-F.Call y0 y1 y2 y3 y4 y5 y6) e =
     let p = parts-Call 0 0 (bare_name x1) (bare_name y1) (bare_operand x2) (bare_operand y2) (bare_option bare_name x3) (bare_option bare_name y3) (map bare_operand x4) (map bare_operand y4) (map bare_hint x5) (map bare_hint y5) (bare_assertion x6) (bare_assertion y6) e in
-    both (names x1 y1 p.1) (both (operands x2 y2 p.2) (both (options bare_name same_name names x3 y3 p.3) (both (lists bare_operand same_operand operands x4 y4 p.4) (both (lists bare_hint same_hint hints x5 y5 p.5) (assertions x6 y6 p.6)))))
+    both_true (names x1 y1 p.1) (both_true (operands x2 y2 p.2) (both_true (options bare_name same_name names x3 y3 p.3) (both_true (lists bare_operand same_operand operands x4 y4 p.4) (both_true (lists bare_hint same_hint hints x5 y5 p.5) (assertions x6 y6 p.6)))))
 kind_layers (StmtKind-F.If x0 x1 x2 x3) (StmtKind-F.If y0 y1 y2 y3) e =
     let p = parts-If (bare_test x0) (bare_test y0) (map bare_stmt (trees_of x1)) (map bare_stmt y1) (map bare_stmt (trees_of x2)) (map bare_stmt y2) (bare_option bare_join x3) (bare_option bare_join y3) e in
-    both (tests x0 y0 p.0) (both (bodies x1 y1 p.1) (both (bodies x2 y2 p.2) (options bare_join same_join joins x3 y3 p.3)))
+    both_true (tests x0 y0 p.0) (both_true (bodies x1 y1 p.1) (both_true (bodies x2 y2 p.2) (options bare_join same_join joins x3 y3 p.3)))
 kind_layers (StmtKind-F.While x0 x1 x2 x3) (StmtKind-F.While y0 y1 y2 y3) e =
     let p = parts-While (bare_test x0) (bare_test y0) 0 0 (bare_assertion x2) (bare_assertion y2) (map bare_stmt (trees_of x3)) (map bare_stmt y3) e in
-    both (tests x0 y0 p.0) (both (assertions x2 y2 p.2) (bodies x3 y3 p.3))
+    both_true (tests x0 y0 p.0) (both_true (assertions x2 y2 p.2) (bodies x3 y3 p.3))
 kind_layers (StmtKind-F.Return x0) (StmtKind-F.Return y0) e =
     let p = parts-Return (bare_operand x0) (bare_operand y0) e in
     operands x0 y0 p
@@ -605,10 +583,10 @@ kind_layers (StmtKind-F.Hint x0) (StmtKind-F.Hint y0) e =
     hints x0 y0 p
 kind_layers (StmtKind-F.Find x0 x1 x2 x3 x4 x5 x6 x7 x8) (StmtKind-F.Find y0 y1 y2 y3 y4 y5 y6 y7 y8) e =
     let p = parts-Find (bare_name x0) (bare_name y0) (bare_name x1) (bare_name y1) (bare_operand x2) (bare_operand y2) (bare_name x3) (bare_name y3) (bare_seq x4) (bare_seq y4) (bare_name x5) (bare_name y5) (bare_name x6) (bare_name y6) (bare_assertion x7) (bare_assertion y7) (map bare_stmt (trees_of x8)) (map bare_stmt y8) e in
-    both (both (names x0 y0 p.0) (both (names x1 y1 p.1) (both (names x3 y3 p.3) (both (seqs x4 y4 p.4) (both (names x5 y5 p.5) (both (names x6 y6 p.6) (assertions x7 y7 p.7))))))) (both (operands x2 y2 p.2) (bodies x8 y8 p.8))
+    both_true (both_true (names x0 y0 p.0) (both_true (names x1 y1 p.1) (both_true (names x3 y3 p.3) (both_true (seqs x4 y4 p.4) (both_true (names x5 y5 p.5) (both_true (names x6 y6 p.6) (assertions x7 y7 p.7))))))) (both_true (operands x2 y2 p.2) (bodies x8 y8 p.8))
 kind_layers (StmtKind-F.Walk x0 x1 x2 x3 x4 x5 x6 x7) (StmtKind-F.Walk y0 y1 y2 y3 y4 y5 y6 y7) e =
     let p = parts-Walk (bare_name x0) (bare_name y0) (bare_name x1) (bare_name y1) (bare_name x2) (bare_name y2) (bare_seq x3) (bare_seq y3) (bare_name x4) (bare_name y4) (bare_name x5) (bare_name y5) (bare_assertion x6) (bare_assertion y6) (map bare_stmt (trees_of x7)) (map bare_stmt y7) e in
-    both (both (names x0 y0 p.0) (both (names x1 y1 p.1) (both (names x2 y2 p.2) (both (seqs x3 y3 p.3) (both (names x4 y4 p.4) (both (names x5 y5 p.5) (assertions x6 y6 p.6))))))) (bodies x7 y7 p.7)
+    both_true (both_true (names x0 y0 p.0) (both_true (names x1 y1 p.1) (both_true (names x2 y2 p.2) (both_true (seqs x3 y3 p.3) (both_true (names x4 y4 p.4) (both_true (names x5 y5 p.5) (assertions x6 y6 p.6))))))) (bodies x7 y7 p.7)
 kind_layers (StmtKind-F.Assign x0 x1) _ e = apart (ap (λ z. nat_eq (tag z) 0) e)
 kind_layers (StmtKind-F.Compute x0 x1 x2 x3) _ e = apart (ap (λ z. nat_eq (tag z) 1) e)
 kind_layers (StmtKind-F.Load x0 x1) _ e = apart (ap (λ z. nat_eq (tag z) 2) e)
@@ -650,35 +628,35 @@ body_same (x ∷ xs) [] e = absurd (cc)
 body_same (x ∷ xs) (y ∷ ys) e =
     let head : bare_stmt x ≡ bare_stmt y = cc in
     let rest : map bare_stmt xs ≡ map bare_stmt ys = cc in
-    both (stmts x y head) (body_same xs ys rest)
+    both_true (stmts x y head) (body_same xs ys rest)
 
 -- ---- items
 
 signatures : Accepts bare_signature same_signature
 signatures x y e =
-    both (names x.name y.name (ap (λ z. z.name) e)) (both (lists bare_name same_name names x.params y.params (ap (λ z. z.params) e))
-    (both (numbers x.reserve y.reserve (ap (λ z. z.reserve) e)) (both (lists bare_bind same_bind binds x.logical y.logical (ap (λ z. z.logical) e))
-    (both (assertions x.pre y.pre (ap (λ z. z.pre) e)) (assertions x.post y.post (ap (λ z. z.post) e))))))
+    both_true (names x.name y.name (ap (λ z. z.name) e)) (both_true (lists bare_name same_name names x.params y.params (ap (λ z. z.params) e))
+    (both_true (numbers x.reserve y.reserve (ap (λ z. z.reserve) e)) (both_true (lists bare_bind same_bind binds x.logical y.logical (ap (λ z. z.logical) e))
+    (both_true (assertions x.pre y.pre (ap (λ z. z.pre) e)) (assertions x.post y.post (ap (λ z. z.post) e))))))
 
 predicates : Accepts bare_predicate same_predicate
 predicates x y e =
-    both (names x.name y.name (ap (λ z. z.name) e)) (both (lists bare_bind same_bind binds x.params y.params (ap (λ z. z.params) e))
+    both_true (names x.name y.name (ap (λ z. z.name) e)) (both_true (lists bare_bind same_bind binds x.params y.params (ap (λ z. z.params) e))
     (lists bare_assertion same_assertion assertions x.cases y.cases (ap (λ z. z.cases) e)))
 
 imports : Accepts bare_import same_import
-imports x y e = both (names x.name y.name (ap (λ z. z.name) e)) (names x.signature y.signature (ap (λ z. z.signature) e))
+imports x y e = both_true (names x.name y.name (ap (λ z. z.name) e)) (names x.signature y.signature (ap (λ z. z.signature) e))
 
 functions : Accepts bare_function same_function
 functions x y e =
-    both (names x.name y.name (ap (λ z. z.name) e)) (both (flags x.exported y.exported (ap (λ z. z.exported) e))
-    (both (names x.signature y.signature (ap (λ z. z.signature) e)) (both (lists bare_name same_name names x.locals y.locals (ap (λ z. z.locals) e))
+    both_true (names x.name y.name (ap (λ z. z.name) e)) (both_true (flags x.exported y.exported (ap (λ z. z.exported) e))
+    (both_true (names x.signature y.signature (ap (λ z. z.signature) e)) (both_true (lists bare_name same_name names x.locals y.locals (ap (λ z. z.locals) e))
     (body_same x.body y.body (ap (λ z. z.body) e)))))
 
 -- modules that are equal with every place set to 0 are the same
 pub modules : Accepts bare_module same_module
 modules x y e =
-    both (names x.name y.name (ap (λ z. z.name) e))
-    (both (lists bare_signature same_signature signatures x.signatures y.signatures (ap (λ z. z.signatures) e))
-    (both (lists bare_predicate same_predicate predicates x.predicates y.predicates (ap (λ z. z.predicates) e))
-    (both (lists bare_import same_import imports x.imports y.imports (ap (λ z. z.imports) e))
+    both_true (names x.name y.name (ap (λ z. z.name) e))
+    (both_true (lists bare_signature same_signature signatures x.signatures y.signatures (ap (λ z. z.signatures) e))
+    (both_true (lists bare_predicate same_predicate predicates x.predicates y.predicates (ap (λ z. z.predicates) e))
+    (both_true (lists bare_import same_import imports x.imports y.imports (ap (λ z. z.imports) e))
     (lists bare_function same_function functions x.functions y.functions (ap (λ z. z.functions) e)))))

@@ -1,6 +1,7 @@
 -- The texts of words, as they are printed.
 use Rattle.std.proofs.Common.{◌≡◌, ℕ, suc, ◌+◌, ◌-◌, ◌<◌, ◌≤◌, ◌^◌, Bool, true, false, nat_eq, List, [], ◌∷◌, ◌++◌, Option, None, inl, inr, refl, sym, ap, ◌∙◌, subst, arith, append_assoc, append-nil}
 use Rattle.std.proofs.lemmas.Bool.Decides.{nat_tests}
+use Rattle.std.specs.Option.{option_or}
 use Rattle.bed_grammar.specs.Grammar.{ref}
 use Rattle.bed_lang.specs.declared.word.Name.{Name}
 use Rattle.bed_lang.specs.declared.word.Var.TheVariants as var
@@ -13,7 +14,7 @@ use Rattle.bed_read.specs.declared.parts.Piece.{Piece}
 use Rattle.bed_read.specs.declared.parts.Piece.TheVariants as piece
 use Rattle.bed_read.specs.Classes.{is_name, AMPERSAND, OLD, RESULT, LEFT_PAREN, RIGHT_PAREN, STAR}
 use Rattle.bed_read.specs.Trees.{added, joined, summed, word_of}
-use Rattle.bed_read.specs.Written.{past, or_mark, Part, Sum, Sums, Word, Num}
+use Rattle.bed_read.specs.Written.{past, Part, Sum, Sums, Word, Num}
 use Rattle.bed_print.specs.Kinds.{fixed, sum_of, word_kinds, sum_kinds}
 use Rattle.bed_print.proofs.Places.{bare_name, bare_word}
 use Rattle.bed_print.proofs.Nonterminals.{placed, sign_class, sign_kind}
@@ -55,8 +56,8 @@ module _ (m : Option Which) (e : m ≡ None) (n : ℕ) where
     one_fewer : n - 1 ≡ j
     one_fewer = omega (arith, inside)
 
-    may_open : or_mark m (past limit.Nesting n) ≡ None
-    may_open = ap (λ z. or_mark z (past limit.Nesting n)) e ∙ not_past limit.Nesting n (omega (arith, inside))
+    may_open : option_or m (past limit.Nesting n) ≡ None
+    may_open = ap (λ z. option_or z (past limit.Nesting n)) e ∙ not_past limit.Nesting n (omega (arith, inside))
 
     times_part : (v : ℕ) (ks : List Kind) (w : word.Word) → v < 2 ^ 32 → Prints (ref (Word j)) ks w
         → Prints (ref (Part m n)) (fixed LEFT_PAREN ∷ kind.Number v ∷ fixed STAR ∷ (ks ++ fixed RIGHT_PAREN ∷ [])) (piece.Word 0 (word.Times v w))
@@ -65,7 +66,7 @@ module _ (m : Option Which) (e : m ≡ None) (n : ℕ) where
         prints_rule (Part m n) (fixed LEFT_PAREN ∷ kind.Number v ∷ fixed STAR ∷ (ks ++ fixed RIGHT_PAREN ∷ []))
         (inr (inr (inr (inr (inr (inl (placed (fixed LEFT_PAREN), ((0, v), (placed (fixed STAR), (w, placed (fixed RIGHT_PAREN)))))))))))
         (prints_right _ _ _ _ (prints_right _ _ _ _ (prints_right _ _ _ _ (prints_right _ _ _ _ (prints_right _ _ _ _ (prints_left _ _ _ _
-        (prints_seq _ _ (fixed LEFT_PAREN ∷ []) (kind.Number v ∷ fixed STAR ∷ (ks ++ fixed RIGHT_PAREN ∷ [])) _ _ (prints_fixed LEFT_PAREN (or_mark m (past limit.Nesting n)) refl may_open)
+        (prints_seq _ _ (fixed LEFT_PAREN ∷ []) (kind.Number v ∷ fixed STAR ∷ (ks ++ fixed RIGHT_PAREN ∷ [])) _ _ (prints_fixed LEFT_PAREN (option_or m (past limit.Nesting n)) refl may_open)
         (prints_seq _ _ (kind.Number v ∷ []) (fixed STAR ∷ (ks ++ fixed RIGHT_PAREN ∷ [])) _ _ (prints_number None v refl is)
         (prints_seq _ _ (fixed STAR ∷ []) (ks ++ fixed RIGHT_PAREN ∷ []) _ _ (prints_fixed STAR None refl refl)
         (prints_seq _ _ ks (fixed RIGHT_PAREN ∷ []) _ _ inner (prints_fixed RIGHT_PAREN None refl refl)))))))))))
@@ -77,7 +78,7 @@ module _ (m : Option Which) (e : m ≡ None) (n : ℕ) where
         prints_rule (Part m n) (fixed LEFT_PAREN ∷ (ks ++ fixed RIGHT_PAREN ∷ []))
         (inr (inr (inr (inr (inr (inr (placed (fixed LEFT_PAREN), (w, placed (fixed RIGHT_PAREN)))))))))
         (prints_right _ _ _ _ (prints_right _ _ _ _ (prints_right _ _ _ _ (prints_right _ _ _ _ (prints_right _ _ _ _ (prints_right _ _ _ _
-        (prints_seq _ _ (fixed LEFT_PAREN ∷ []) (ks ++ fixed RIGHT_PAREN ∷ []) _ _ (prints_fixed LEFT_PAREN (or_mark m (past limit.Nesting n)) refl may_open)
+        (prints_seq _ _ (fixed LEFT_PAREN ∷ []) (ks ++ fixed RIGHT_PAREN ∷ []) _ _ (prints_fixed LEFT_PAREN (option_or m (past limit.Nesting n)) refl may_open)
         (prints_seq _ _ ks (fixed RIGHT_PAREN ∷ []) _ _ inner (prints_fixed RIGHT_PAREN None refl refl)))))))))
 
 -- ---- words

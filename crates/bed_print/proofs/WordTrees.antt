@@ -3,7 +3,7 @@ use Rattle.std.proofs.Common.{◌≡◌, ℕ, Bool, true, false, List, [], ◌�
 use Rattle.bed_lang.specs.declared.word.Name.{Name}
 use Rattle.bed_lang.specs.declared.word.Var.{Var}
 use Rattle.bed_lang.specs.declared.word.Var.TheVariants as var
-use Rattle.bed_lang.specs.declared.word.Word.{Word, Number, Var as WordVar, Label, Times, roll-Word, map-Word, fold-roll-Word}
+use Rattle.bed_lang.specs.declared.word.Word.{Word, Number, Var as WordVar, Label, Add, Times, roll-Word, map-Word, fold-roll-Word}
 use Rattle.bed_lang.specs.declared.word.Word.TheOpen.{Word-F}
 use Rattle.bed_lang.specs.declared.word.Word.TheVariants.{rolls-Number, rolls-Var, rolls-Label, rolls-Add, rolls-Sub, rolls-Times, outs-Number, outs-Var, outs-Label, outs-Add, outs-Sub, outs-Times}
 use Rattle.bed_lang.specs.declared.word.Seq.{Seq, Var as SeqVar, Nil, Cons, App, fold-roll-Seq}
@@ -91,8 +91,11 @@ bare_word-Label x = ap bare_word (sym (rolls-Label x)) ∙ bare_word-roll (Word-
 pub bare_word-Times : (n : ℕ) (a : Word) → bare_word (Times n a) ≡ Times n (bare_word a)
 bare_word-Times n a = ap bare_word (sym (rolls-Times n a)) ∙ bare_word-roll (Word-F.Times n a)
 
+pub bare_word-Add : (a b : Word) → bare_word (Add a b) ≡ Add (bare_word a) (bare_word b)
+bare_word-Add a b = ap bare_word (sym (rolls-Add a b)) ∙ bare_word-roll (Word-F.Add a b)
+
 pub bare_word-added : (a b : Word) (s : Bool) → bare_word (added a (s, b)) ≡ added (bare_word a) (s, bare_word b)
-bare_word-added a b true = ap bare_word (sym (rolls-Add a b)) ∙ bare_word-roll (Word-F.Add a b)
+bare_word-added a b true = bare_word-Add a b
 bare_word-added a b false = ap bare_word (sym (rolls-Sub a b)) ∙ bare_word-roll (Word-F.Sub a b)
 
 pub bare_seq-Var : (v : Var) → bare_seq (SeqVar v) ≡ SeqVar (bare_var v)

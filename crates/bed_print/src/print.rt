@@ -2,7 +2,7 @@
 ghost use Rattle.std.specs.Prelude.{◌≡◌, ◌++◌, OnOk, OnErr};
 ghost use Rattle.bed_print.specs.Kinds.{module_kinds};
 ghost use Rattle.bed_print.specs.Layout.{text_of};
-ghost use Rattle.bed_print.specs.Printing.{ReadsBack};
+ghost use Rattle.bed_print.specs.Printing.{ReadsBack, ScopesBack};
 
 use crate::item::push_module;
 use crate::layout::push_text;
@@ -34,6 +34,9 @@ pub fn print_module(alloc: Global, m: &Module, out: &mut Vec<u8>) -> Result<(), 
     ensures printed { OnOk result (out.new.items ≡ out.old.items ++ text_of (module_kinds m.now)) }
     // Where some text has this module, what was appended reads back as it, places set aside.
     ensures reads_back { OnOk result (ReadsBack m.now out.old.items out.new.items) }
+    // Where some text has a module that keeps the rules of names, and this is what scoping makes of it, what was appended
+    // has a module that scoping takes to this one, places set aside.
+    ensures scopes_back { OnOk result (ScopesBack m.now out.old.items out.new.items) }
     ensures unchanged { OnErr result (out.new.items ≡ out.old.items) }
 {
     append(alloc, m, out)

@@ -1,3 +1,4 @@
+use bed_names::scope;
 use bed_print::print_module;
 use bed_read::read_module;
 use std::alloc::{AllocError, Global};
@@ -36,6 +37,22 @@ const TEXTS: [(&str, &str); 7] = [
     ),
 ];
 
+/// Texts, and what is printed of their modules without bare arguments: a name that stands for a word has brackets.
+const SCOPED: [(&str, &str); 3] = [
+    (
+        "module m;signature S(p)for s:seq pre lst(p,s)post lseg(p+0,(p),s)*lst(0,nil);",
+        "module m;\nsignature S(p) reserving 0 for s: seq pre lst((p), s) post lseg(p + 0, (p), s) * lst(0, nil);\n",
+    ),
+    (
+        "module m;predicate q(a:word,s:seq)=exists t:seq,b:word.[s==t]*lseg(a,b,t)|q(a,cons(a,s));",
+        "module m;\npredicate q(a: word, s: seq) = exists t: seq, b: word. [s == t] * lseg((a), (b), t)\n  | q((a), cons(a, s));\n",
+    ),
+    (
+        "module m;signature S(p)for s:seq pre lst(p,s)post emp;function f:S{hint fold lst(p,_)case 1;hint give v=p;hint give v=s;return 0;}",
+        "module m;\nsignature S(p) reserving 0 for s: seq pre lst((p), s) post emp;\nfunction f: S {\n    hint fold lst((p), _) case 1;\n    hint give v = (p);\n    hint give v = s;\n    return 0;\n}\n",
+    ),
+];
+
 /// What is printed of the module of a text, after the bytes `before`.
 fn printed(
     rt: &impl Abort,
@@ -59,6 +76,31 @@ fn modules_are_printed_as_texts_that_read_back(rt: HostRuntime) -> Result<(), Fa
         let out = printed(&rt, rt.alloc(), b"", text.as_bytes())?;
         assert!(rt; out.as_slice() == expected.as_bytes(), "{text}");
         let again = printed(&rt, rt.alloc(), b"", out.as_slice())?;
+        assert!(rt; again.as_slice() == expected.as_bytes(), "{text}");
+    }
+    Ok(())
+}
+
+/// What is printed of what scoping makes of the module of a text.
+fn scoped(rt: &impl Abort, alloc: Global, text: &[u8]) -> Result<Vec<u8>, AllocError> {
+    assert!(rt; text.len() < 2_000_000);
+    let mut out = Vec::new(alloc);
+    match read_module(alloc, text) {
+        Ok(module) => match scope(alloc, module) {
+            Ok(scoped) => print_module(alloc, scoped.module(), &mut out)?,
+            Err(_) => out.extend_from_slice(b"refused by a rule of names")?,
+        },
+        Err(_) => out.extend_from_slice(b"refused")?,
+    }
+    Ok(out)
+}
+
+#[test]
+fn scoped_modules_are_printed_as_texts_that_scope_back(rt: HostRuntime) -> Result<(), Fail> {
+    for (text, expected) in &SCOPED {
+        let out = scoped(&rt, rt.alloc(), text.as_bytes())?;
+        assert!(rt; out.as_slice() == expected.as_bytes(), "{text}");
+        let again = scoped(&rt, rt.alloc(), out.as_slice())?;
         assert!(rt; again.as_slice() == expected.as_bytes(), "{text}");
     }
     Ok(())
