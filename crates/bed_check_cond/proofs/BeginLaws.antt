@@ -9,7 +9,7 @@ use Rattle.bed_lang.specs.declared.logic.Arg.{Arg}
 use Rattle.bed_lang.specs.declared.condition.Cond.{Cond}
 use Rattle.bed_lang.specs.Keys.{bare_name}
 use Rattle.bed_lang.specs.Lookups.{function_signature, count_of_params}
-use Rattle.bed_lang.specs.Values.{wrap, Values, Variable, Named, Old, Fresh, set_word}
+use Rattle.bed_lang.specs.Values.{wrap, Values, Named, Old, Fresh, set_word}
 use Rattle.bed_lang.specs.Instances.{values_with}
 use Rattle.bed_lang.proofs.ValueLaws.{value-Var}
 use Rattle.bed_sat.specs.Assertions.{World, meaning}
@@ -24,8 +24,8 @@ use Rattle.bed_check_pure.specs.States.{StateHolds}
 use Rattle.bed_check_heap.specs.Sound.{AgreeBelow}
 use Rattle.bed_check_heap.proofs.FreshLaws.{agree_self, agree_more, set_here}
 use Rattle.bed_check_heap.proofs.OpenLaws.{set_args}
-use Rattle.bed_check_cond.specs.Paths.{is_fresh, AreRead, ReadsLocals}
-use Rattle.bed_check_cond.proofs.ValueLaws.{SameButFresh}
+use Rattle.bed_check_cond.specs.Paths.{AreRead, ReadsLocals}
+use Rattle.bed_check_cond.proofs.ValueLaws.{SameButFresh, no_fresh}
 use Rattle.bed_check_cond.proofs.ReadLaws.{reads_known}
 use Rattle.bed_check_cond.proofs.OpeningLaws.{assertion_opens, state_opened}
 use Rattle.bed_check_cond.proofs.EndLaws.{with_locals}
@@ -43,9 +43,6 @@ fresh_agrees next μ ν κ [] k n le g = g
 fresh_agrees next μ ν κ (x ∷ xs) (suc k) n le g = fresh_agrees next μ ν κ xs k n le g
 fresh_agrees next μ ν κ (x ∷ xs) zero n le g =
     fresh_agrees next μ ν (set_word κ (Fresh n) (μ.words (Named x.bytes))) xs zero (n + 1) (omega arith) (agree_more next n (μ.words (Named x.bytes)) ν κ le g)
-
-no_fresh : (y : Variable) (n : ℕ) → is_fresh y ≡ false → y ≡ Fresh n → ⊥
-no_fresh y n f e = let no : true ≡ false = sym (ap is_fresh e) ∙ f in absurd cc
 
 module _ (labels : List ℕ → ℕ) (μ : Values) where
   -- locals are read so, where arguments are as they were at entry
@@ -76,8 +73,8 @@ module _ (labels : List ℕ → ℕ) (μ : Values) where
       let g = fresh_agrees 0 μ μ μ xs k 0 (omega arith) (agree_self 0 μ) in
       record {
         locals = starts_read xs k 0 μ (agree_self 0 μ) entry;
-        others = λ y f out. sym (g.words y (λ n e. absurd (no_fresh y n f e)));
-        lists = λ y f. sym (g.lists y (λ n e. absurd (no_fresh y n f e)));
+        others = λ y f out. sym (g.words y (λ n e. no_fresh y n f e));
+        lists = λ y f. sym (g.lists y (λ n e. no_fresh y n f e));
       }
 
 -- ---- the state

@@ -3,6 +3,7 @@ use Rattle.std.proofs.Common.{◌≡◌, ℕ, ◌+◌, ◌-◌, ◌*◌, Bool, t
 use Rattle.std.specs.Prelude.{bit_and, bit_or, bit_xor}
 use Rattle.std.proofs.Math.Nat.{mul_comm}
 use Rattle.std.proofs.lemmas.Bool.{and_parts}
+use Rattle.bed_machine.proofs.WordLaws.{some_same}
 use Rattle.bed_lang.specs.declared.word.Word.{Word, Number, Add, Sub}
 use Rattle.bed_lang.specs.declared.module.Op.{Op}
 use Rattle.bed_lang.specs.declared.module.Op.TheVariants as op
@@ -10,13 +11,11 @@ use Rattle.bed_lang.specs.Values.{wrap, Values, value}
 use Rattle.bed_lang.specs.Forms.{word_form, times_form}
 use Rattle.bed_lang.proofs.ValueLaws.{value-Number, value-Add, value-Sub}
 use Rattle.bed_forms.proofs.FormValues.{times-form_value, form-value}
-use Rattle.bed_forms.proofs.DifferenceLaws.{constant-small, constant_form-value}
 use Rattle.bed_sat.specs.Valid.{op_result}
-use Rattle.bed_sat.proofs.FrameLaws.{some_same}
 use Rattle.bed_deriv.specs.Same.{is_constant}
 use Rattle.bed_deriv.specs.Rebuilt.{form_word, rebuilt_word}
 use Rattle.bed_deriv.specs.Steps.{product_of, bits_of, computed}
-use Rattle.bed_check_pure.proofs.SameLaws.{empty_if_none}
+use Rattle.bed_check_pure.proofs.SameLaws.{constant_word-value}
 use Rattle.bed_check_pure.proofs.RebuiltLaws.{form_word-value}
 
 module _ (labels : List ℕ → ℕ) (ν : Values) where
@@ -25,10 +24,6 @@ module _ (labels : List ℕ → ℕ) (ν : Values) where
 
   rebuilt-value : (t : Word) → V (rebuilt_word t) ≡ V t
   rebuilt-value t = form_word-value labels ν (word_form t) ∙ form-value labels ν t
-
-  -- a word whose form is a constant has it as its value
-  constant-value : (a : Word) → is_constant (word_form a) ≡ true → V a ≡ (word_form a).constant
-  constant-value a is = sym (form-value labels ν a) ∙ constant_form-value labels ν (word_form a) (constant-small a) (empty_if_none (word_form a).parts is)
 
   times-value : (c : ℕ) (b : Word) → V (form_word (times_form c (word_form b))) ≡ wrap (c * V b)
   times-value c b = form_word-value labels ν (times_form c (word_form b)) ∙ times-form_value labels ν c (word_form b) ∙ ap (λ z. wrap (c * z)) (form-value labels ν b)
@@ -41,13 +36,13 @@ module _ (labels : List ℕ → ℕ) (ν : Values) where
     where
       second : (c : Bool) → is_constant (word_form b) ≡ c → (if c then Some (form_word (times_form (word_form b).constant (word_form a))) else None) ≡ Some t → wrap (V a * V b) ≡ V t
       second true is e =
-          ap wrap (mul_comm (V a) (V b)) ∙ ap (λ z. wrap (z * V a)) (constant-value b is) ∙ sym (times-value (word_form b).constant a) ∙ ap V (some_same e)
+          ap wrap (mul_comm (V a) (V b)) ∙ ap (λ z. wrap (z * V a)) (constant_word-value labels ν b is) ∙ sym (times-value (word_form b).constant a) ∙ ap V (some_same e)
       second false is e = absurd cc
 
       by : (c : Bool) → is_constant (word_form a) ≡ c
           → (if c then Some (form_word (times_form (word_form a).constant (word_form b))) else (if is_constant (word_form b) then Some (form_word (times_form (word_form b).constant (word_form a))) else None)) ≡ Some t
           → wrap (V a * V b) ≡ V t
-      by true is e = ap (λ z. wrap (z * V b)) (constant-value a is) ∙ sym (times-value (word_form a).constant b) ∙ ap V (some_same e)
+      by true is e = ap (λ z. wrap (z * V b)) (constant_word-value labels ν a is) ∙ sym (times-value (word_form a).constant b) ∙ ap V (some_same e)
       by false is e = second (is_constant (word_form b)) refl e
 
   bits-value : (f : ℕ → ℕ → ℕ) (a b t : Word) → bits_of f (word_form a) (word_form b) ≡ Some t → wrap (f (V a) (V b)) ≡ V t
@@ -57,7 +52,7 @@ module _ (labels : List ℕ → ℕ) (ν : Values) where
           → wrap (f (V a) (V b)) ≡ V t
       by true is e =
           let k = and_parts (is_constant (word_form a)) (is_constant (word_form b)) is in
-          ap₂ (λ m n. wrap (f m n)) (constant-value a k.0) (constant-value b k.1) ∙ sym (value-Number labels ν (f (word_form a).constant (word_form b).constant)) ∙ ap V (some_same e)
+          ap₂ (λ m n. wrap (f m n)) (constant_word-value labels ν a k.0) (constant_word-value labels ν b k.1) ∙ sym (value-Number labels ν (f (word_form a).constant (word_form b).constant)) ∙ ap V (some_same e)
       by false is e = absurd cc
 
   -- modulo 2^32, the result is the word's value

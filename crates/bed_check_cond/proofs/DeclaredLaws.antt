@@ -1,8 +1,8 @@
 -- What is declared holds no fresh variable.
 use Rattle.std.proofs.Common.{◌≡◌, Bool, true, false, IsTrue, cond, List, [], ◌∷◌, Option, Some, None, subst}
-use Rattle.bed_sat.proofs.FrameLaws.{some_same}
 use Rattle.std.specs.Prelude.{find, bytes_eq}
 use Rattle.std.proofs.lemmas.Bool.{and_parts}
+use Rattle.bed_machine.proofs.WordLaws.{some_same}
 use Rattle.bed_lang.specs.declared.word.Name.{Name}
 use Rattle.bed_lang.specs.declared.module.Signature.{Signature}
 use Rattle.bed_lang.specs.declared.condition.Decls.{Decls}

@@ -2,6 +2,7 @@
 use Rattle.std.proofs.Common.{◌≡◌, ℕ, ◌+◌, true, ◌==◌, IsTrue, List, [], ◌++◌, map, length, take, drop, Option, Some, None, Ok, refl, sym, ◌∙◌, ap, subst, arith}
 use Rattle.std.proofs.lemmas.Bool.{and_parts, eqb-true}
 use Rattle.bed_machine.specs.Memory.{Memory, empty}
+use Rattle.bed_machine.proofs.WordLaws.{some_same}
 use Rattle.bed_lang.specs.declared.word.Name.{Name}
 use Rattle.bed_lang.specs.declared.word.Word.{Word}
 use Rattle.bed_lang.specs.declared.logic.Arg.{Arg}
@@ -22,7 +23,6 @@ use Rattle.bed_sat.specs.Assertions.{Meaning, AreTrueTerms, Holds, World, meanin
 use Rattle.bed_sat.specs.Valid.{operand_value, After, GoalHolds}
 use Rattle.bed_sat.proofs.PartLaws.{joins_empty}
 use Rattle.bed_sat.proofs.InstanceLaws.{terms_true_with}
-use Rattle.bed_sat.proofs.FrameLaws.{some_same}
 use Rattle.bed_deriv.specs.declared.derivation.DArg.{DArg}
 use Rattle.bed_deriv.specs.declared.state.SymState.{SymState}
 use Rattle.bed_deriv.specs.Arguments.{to_values}

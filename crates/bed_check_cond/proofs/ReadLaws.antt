@@ -1,7 +1,8 @@
 -- What a path reads: operands, places and tests have the values of their terms; and a local that is set is read so.
 use Rattle.std.proofs.Common.{◌≡◌, ℕ, ◌+◌, Bool, true, false, ◌||◌, IsTrue, if◌then◌else◌, List, [], ◌∷◌, map, Option, Some, None, refl, sym, ◌∙◌, ap, ap₂, subst, arith}
 use Rattle.std.specs.Prelude.{bytes_eq}
-use Rattle.std.proofs.lemmas.Bool.{and_parts}
+use Rattle.std.proofs.lemmas.Bool.{and_parts, or_parts}
+use Rattle.bed_machine.proofs.WordLaws.{some_same}
 use Rattle.bed_lang.specs.declared.word.Name.{Name}
 use Rattle.bed_lang.specs.declared.word.Word.{Word, Number, Add}
 use Rattle.bed_lang.specs.declared.module.Operand.{Operand}
@@ -9,18 +10,19 @@ use Rattle.bed_lang.specs.declared.module.Operand.TheVariants as operand
 use Rattle.bed_lang.specs.declared.module.Place.{Place}
 use Rattle.bed_lang.specs.declared.module.Rel.{Rel}
 use Rattle.bed_lang.specs.declared.module.Rel.TheVariants as rel
-use Rattle.bed_lang.specs.Values.{wrap, Values, Variable, Named, Fresh, same_variable, value}
+use Rattle.bed_lang.specs.Values.{wrap, Values, Variable, Named, same_variable, value}
 use Rattle.bed_lang.proofs.ValueLaws.{value-Number, value-Label, value-Add}
 use Rattle.bed_sat.specs.Valid.{AreRelated, operand_value, place_value, set_local}
 use Rattle.bed_sat.specs.Facts.{IsTrueFact}
 use Rattle.bed_sat.specs.Assertions.{World}
-use Rattle.bed_sat.proofs.FrameLaws.{bytes_eq_is, some_same}
+use Rattle.bed_sat.proofs.FrameLaws.{bytes_eq_is}
 use Rattle.bed_deriv.specs.Fresh.{every, known_local}
 use Rattle.bed_deriv.specs.Steps as steps
 use Rattle.bed_deriv.specs.Steps.{local_term, for_local, operand_term, plus_number, place_term, word_before, operand_terms, with_term, relation}
 use Rattle.bed_check_heap.specs.Sound.{AgreeBelow}
 use Rattle.bed_check_heap.proofs.FreshLaws.{value_known}
-use Rattle.bed_check_cond.specs.Paths.{is_local, is_fresh, AreRead, ReadsLocals}
+use Rattle.bed_check_cond.specs.Paths.{is_local, AreRead, ReadsLocals}
+use Rattle.bed_check_cond.proofs.ValueLaws.{no_fresh}
 
 -- ---- operands
 
@@ -107,15 +109,11 @@ module _ (labels : List ℕ → ℕ) (ν μ : Values) (x : Name) (t : Word) (v :
   -- one of them has the name
   has_name : (ls : List (Name × Word)) (u : Word) (y : Variable) → local_term ls x.bytes ≡ Some u → is_local ls y ≡ false → same_variable y (Named x.bytes) ≡ false
   has_name [] u y is out = absurd cc
-  has_name (l ∷ ls) u y is out = by (bytes_eq l.0.bytes x.bytes) refl is (λ d. has_name ls u y d (parts (same_variable y (Named l.0.bytes)) (is_local ls y) out).1)
+  has_name (l ∷ ls) u y is out = by (bytes_eq l.0.bytes x.bytes) refl is (λ d. has_name ls u y d (or_parts (same_variable y (Named l.0.bytes)) (is_local ls y) out).1)
     where
-      parts : (a b : Bool) → (a || b) ≡ false → (a ≡ false) × (b ≡ false)
-      parts true b h = absurd cc
-      parts false b h = (refl, h)
-
       by : (b : Bool) → bytes_eq l.0.bytes x.bytes ≡ b → (if b then Some l.1 else local_term ls x.bytes) ≡ Some u → (local_term ls x.bytes ≡ Some u → same_variable y (Named x.bytes) ≡ false)
           → same_variable y (Named x.bytes) ≡ false
-      by true same is more = subst (λ (z : List ℕ). same_variable y (Named z) ≡ false) (bytes_eq_is l.0.bytes x.bytes same) (parts (same_variable y (Named l.0.bytes)) (is_local ls y) out).0
+      by true same is more = subst (λ (z : List ℕ). same_variable y (Named z) ≡ false) (bytes_eq_is l.0.bytes x.bytes same) (or_parts (same_variable y (Named l.0.bytes)) (is_local ls y) out).0
       by false same is more = more is
 
   pub local_set : (ls ls' : List (Name × Word)) → steps.set_local ls x t ≡ Some ls' → ReadsLocals labels ls ν μ → ReadsLocals labels ls' ν (set_local μ x v)
@@ -138,12 +136,9 @@ module _ (w : World) (next : ℕ) (ν κ μ : Values) (g : AgreeBelow next ν κ
       let k = and_parts (known_local next l) (every (known_local next) ls) known in
       (are.0 ∙ value_known w next ν κ g l.1 k.0, are_read ls k.1 are.1)
 
-  no_fresh : (y : Variable) (n : ℕ) → is_fresh y ≡ false → y ≡ Fresh n → ⊥
-  no_fresh y n f e = let no : true ≡ false = sym (ap is_fresh e) ∙ f in absurd cc
-
   pub reads_known : (ls : List (Name × Word)) → IsTrue (every (known_local next) ls) → ReadsLocals w.labels ls ν μ → ReadsLocals w.labels ls κ μ
   reads_known ls known r = record {
     locals = are_read ls known r.locals;
-    others = λ y f out. r.others y f out ∙ sym (g.words y (λ n e. absurd (no_fresh y n f e)));
-    lists = λ y f. r.lists y f ∙ sym (g.lists y (λ n e. absurd (no_fresh y n f e)));
+    others = λ y f out. r.others y f out ∙ sym (g.words y (λ n e. no_fresh y n f e));
+    lists = λ y f. r.lists y f ∙ sym (g.lists y (λ n e. no_fresh y n f e));
   }

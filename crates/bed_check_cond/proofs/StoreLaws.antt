@@ -2,7 +2,7 @@
 use Rattle.std.proofs.Common.{◌≡◌, ℕ, ◌+◌, ◌-◌, ◌%◌, ◌<◌, Bool, true, false, nat_eq, List, [], ◌∷◌, ◌++◌, take, drop, Option, Some, IsSome, refl, sym, ◌∙◌, ap, subst, subst₂, arith}
 use Rattle.std.proofs.lemmas.Bool.{eqb-true, eq-eqb}
 use Rattle.bed_machine.specs.Memory.{Memory, word_at, put_byte, put_word}
-use Rattle.bed_machine.proofs.WordLaws.{put_byte_same, put_byte_other}
+use Rattle.bed_machine.proofs.WordLaws.{put_byte_same, put_byte_other, some_same}
 use Rattle.bed_lang.specs.declared.word.Word.{Word}
 use Rattle.bed_lang.specs.declared.logic.Atom.{Atom}
 use Rattle.bed_lang.specs.declared.logic.Atom.TheVariants as atom
@@ -12,7 +12,6 @@ use Rattle.bed_sat.specs.Cells.{IsCell, IsByte}
 use Rattle.bed_sat.specs.Assertions.{Meaning, IsTrueAtom, World}
 use Rattle.bed_sat.proofs.PartLaws.{joins_comm, joins_assoc, joins_left}
 use Rattle.bed_sat.proofs.CellLaws.{word_includes, joins_put_byte, joins_put_word, put_cell}
-use Rattle.bed_sat.proofs.FrameLaws.{some_same}
 use Rattle.bed_deriv.specs.declared.state.SymState.{SymState}
 use Rattle.bed_deriv.specs.Arguments.{numbered}
 use Rattle.bed_deriv.specs.HeapRules.{cell_of, byte_of, taken}

@@ -52,15 +52,16 @@ not_below_0 Answer k = refl
 not_below_0 (Fresh n) k = let z : n < 0 = k n refl in absurd (omega arith)
 not_below_0 Hole k = refl
 
+-- a variable that isn't fresh is no fresh one
+pub no_fresh : {A : Type 0} (x : Variable) (n : ℕ) → is_fresh x ≡ false → x ≡ Fresh n → A
+no_fresh x n f e = let no : true ≡ false = sym (ap is_fresh e) ∙ f in absurd cc
+
 -- values that agree on all variables but those that are fresh
 pub agree_but_fresh : (next : ℕ) (ν μ : Values) → AgreeBelow next ν μ → SameButFresh ν μ
 agree_but_fresh next ν μ g = record {
   words = λ x f. ap wrap (sym (g.words x (λ n e. no_fresh x n f e)));
   lists = λ x f. ap (map wrap) (sym (g.lists x (λ n e. no_fresh x n f e)));
 }
-  where
-    no_fresh : (x : Variable) (n : ℕ) → is_fresh x ≡ false → x ≡ Fresh n → n < next
-    no_fresh x n f e = let no : true ≡ false = sym (ap is_fresh e) ∙ f in absurd cc
 
 either_word : (ν μ : Values) (x : Variable) (b : Bool) → is_fresh x ≡ b → (is_fresh x ≡ false → wrap (ν.words x) ≡ wrap (μ.words x))
     → wrap (if b then μ.words x else ν.words x) ≡ wrap (μ.words x)

@@ -1,6 +1,7 @@
 -- Two list segments in a row are joined into one.
 use Rattle.std.proofs.Common.{◌≡◌, ℕ, ◌+◌, true, IsTrue, Option, Some, None, List, [], ◌∷◌, map, codes, inl, refl, sym, ◌∙◌, ap, subst, subst₂}
 use Rattle.bed_machine.specs.Memory.{Memory, wrap}
+use Rattle.bed_machine.proofs.WordLaws.{some_same}
 use Rattle.bed_lang.specs.declared.word.Name.{Name}
 use Rattle.bed_lang.specs.declared.word.Var.TheVariants as var
 use Rattle.bed_lang.specs.declared.word.Word.{Number}
@@ -20,7 +21,7 @@ use Rattle.bed_lang.specs.Prelude.{lseg}
 use Rattle.bed_lang.proofs.ValueLaws.{value-small, list_value-Var, list_value-App}
 use Rattle.bed_lang.specs.Lookups.{predicate_named}
 use Rattle.bed_sat.specs.Assertions.{Meaning, IsTrueAtom, World, meaning}
-use Rattle.bed_sat.proofs.FrameLaws.{bytes_eq_is, some_same}
+use Rattle.bed_sat.proofs.FrameLaws.{bytes_eq_is}
 use Rattle.bed_sat.proofs.InstanceLaws.{list_value-with}
 use Rattle.bed_deriv.specs.declared.derivation.DArg.{DArg}
 use Rattle.bed_deriv.specs.declared.state.SymState.{SymState}

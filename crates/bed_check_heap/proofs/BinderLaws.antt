@@ -1,6 +1,7 @@
 -- The binders of an assertion: with values that arguments give, and with fresh variables that have their values.
 use Rattle.std.proofs.Common.{◌≡◌, ℕ, ◌+◌, ◌<◌, ◌≤◌, Bool, if◌then◌else◌, Option, Some, None, List, [], ◌∷◌, map, refl, sym, ◌∙◌, ap, subst, arith}
 use Rattle.std.proofs.lemmas.Bool.{eq-eqb}
+use Rattle.bed_machine.proofs.WordLaws.{some_same}
 use Rattle.bed_lang.specs.declared.word.Name.{Name}
 use Rattle.bed_lang.specs.declared.word.Sort.{Sort}
 use Rattle.bed_lang.specs.declared.word.Sort.TheVariants as sort
@@ -12,7 +13,6 @@ use Rattle.bed_lang.specs.declared.logic.Bind.{Bind}
 use Rattle.bed_lang.specs.Values.{wrap, Values, Variable, Named, Fresh, set_word, set_list, value, list_value}
 use Rattle.bed_lang.proofs.ValueLaws.{list_value-Var}
 use Rattle.bed_sat.specs.Assertions.{ArgValue, WordValue, ListValue, set_params, ForSomeValue, ForSomeValues}
-use Rattle.bed_sat.proofs.FrameLaws.{some_same}
 use Rattle.bed_sat.proofs.InstanceLaws.{wrap_twice}
 use Rattle.bed_deriv.specs.declared.derivation.DArg.{DArg}
 use Rattle.bed_deriv.specs.Arguments.{to_word, to_seq, word_value, seq_value, to_value, value_before, named, to_values}

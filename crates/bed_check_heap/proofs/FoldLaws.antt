@@ -3,6 +3,7 @@ use Rattle.std.proofs.Common.{◌≡◌, ℕ, suc, ◌+◌, ◌-◌, ◌==◌, L
 use Rattle.std.specs.Prelude.{slice_get}
 use Rattle.std.proofs.lemmas.Bool.{and_parts, eqb-true}
 use Rattle.bed_machine.specs.Memory.{Memory}
+use Rattle.bed_machine.proofs.WordLaws.{some_same}
 use Rattle.bed_lang.specs.declared.word.Name.{Name}
 use Rattle.bed_lang.specs.declared.logic.Arg.{Arg}
 use Rattle.bed_lang.specs.declared.logic.Atom.TheVariants as atom
@@ -18,7 +19,6 @@ use Rattle.bed_sat.specs.Assertions.{blank, set_params, arg_values, AreTrueTerms
 use Rattle.bed_sat.proofs.PartLaws.{joins_comm}
 use Rattle.bed_sat.proofs.SatLaws.{meaning_more}
 use Rattle.bed_sat.proofs.InstanceLaws.{terms_true_with}
-use Rattle.bed_sat.proofs.FrameLaws.{some_same}
 use Rattle.bed_deriv.specs.declared.derivation.DArg.{DArg}
 use Rattle.bed_deriv.specs.declared.state.SymState.{SymState}
 use Rattle.bed_deriv.specs.Arguments.{at_number, number_at, name_at, to_values}

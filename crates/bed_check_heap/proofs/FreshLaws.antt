@@ -3,6 +3,7 @@ use Rattle.std.proofs.Common.{◌≡◌, ◌≢◌, ℕ, zero, suc, ◌<◌, ◌
 use Rattle.std.specs.Prelude.{slice_get}
 use Rattle.std.proofs.lemmas.Bool.{and_parts, and_from, ltb-true, eq-eqb, ne_eqb}
 use Rattle.bed_machine.specs.Memory.{Memory}
+use Rattle.bed_machine.proofs.WordLaws.{some_same}
 use Rattle.bed_lang.specs.declared.word.Var.{Var}
 use Rattle.bed_lang.specs.declared.word.Var.TheVariants as var
 use Rattle.bed_lang.specs.declared.word.Word.{Word, fold-Word}
@@ -22,7 +23,6 @@ use Rattle.bed_sat.specs.Facts.{IsTrueFact}
 use Rattle.bed_sat.specs.Assertions.{WordValue, ListValue, Meaning, arg_value, arg_values, IsTrueAtom, World}
 use Rattle.bed_sat.specs.Scopes.{Scope, word_in, word_in_step, seq_in, seq_in_step, pure_in, Agree}
 use Rattle.bed_sat.proofs.ScopeLaws.{word_agree, seq_agree, fact_agree}
-use Rattle.bed_sat.proofs.FrameLaws.{some_same}
 use Rattle.bed_deriv.specs.Fresh.{every, known_var, known_word_step, known_word, known_seq_step, known_seq, known_arg, known_pure, known_atom}
 use Rattle.bed_deriv.specs.HeapRules.{without, fresh_word}
 use Rattle.bed_check_pure.specs.States.{AreTrueFacts, AreTrueAtoms}

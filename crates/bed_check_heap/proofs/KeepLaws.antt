@@ -2,6 +2,7 @@
 -- leaves goals and states, and where the state holds and the goals are true, some state that it leaves holds.
 use Rattle.std.proofs.Common.{◌≡◌, ℕ, ◌+◌, ◌-◌, ◌*◌, ◌≤◌, true, false, List, [], ◌∷◌, length, Some, None, Ok, inl, inr, refl, sym, ◌∙◌, subst, subst₂, arith}
 use Rattle.bed_machine.specs.Memory.{Memory}
+use Rattle.bed_machine.proofs.WordLaws.{some_same}
 use Rattle.bed_lang.specs.declared.word.Word.{Word, Add, Sub, Times}
 use Rattle.bed_lang.specs.declared.logic.Pure.{Pure}
 use Rattle.bed_lang.specs.declared.logic.Atom.{Atom}
@@ -13,7 +14,6 @@ use Rattle.bed_sat.specs.Facts.{IsTrueFact}
 use Rattle.bed_sat.specs.Assertions.{Meaning, IsTrueAtom, World, meaning}
 use Rattle.bed_sat.proofs.PartLaws.{joins_comm, joins_assoc}
 use Rattle.bed_sat.proofs.BlockLaws.{block_small}
-use Rattle.bed_sat.proofs.FrameLaws.{some_same}
 use Rattle.bed_deriv.specs.declared.derivation.DArg.{DArg}
 use Rattle.bed_deriv.specs.declared.state.SymState.{SymState}
 use Rattle.bed_deriv.specs.declared.state.Remainder.{Remainder}

@@ -6,6 +6,7 @@ use Rattle.std.specs.Cmp.Lexicographic.{pointwise}
 use Rattle.std.proofs.lemmas.Bool.{and_parts}
 use Rattle.std.proofs.lemmas.List.{map-append}
 use Rattle.bed_machine.specs.Memory.{Memory, empty, wrap}
+use Rattle.bed_machine.proofs.WordLaws.{some_same}
 use Rattle.bed_lang.specs.declared.word.Var.TheVariants as var
 use Rattle.bed_lang.specs.declared.word.Word.{Number, Add}
 use Rattle.bed_lang.specs.declared.word.Seq.{Cons}
@@ -22,7 +23,6 @@ use Rattle.bed_sat.specs.Assertions.{ArgValue, WordValue, ListValue, Meaning, bl
 use Rattle.bed_sat.proofs.PartLaws.{joins_comm, joins_assoc, joins_empty, to_empty}
 use Rattle.bed_sat.proofs.SatLaws.{Within, meaning_more}
 use Rattle.bed_sat.proofs.SameLaws.{true_same, params_same, case_same}
-use Rattle.bed_sat.proofs.FrameLaws.{some_same}
 use Rattle.bed_check_heap.proofs.UnfoldLaws.{case_of}
 
 -- a segment's arguments: its start, its end and its elements

@@ -3,6 +3,7 @@ use Rattle.std.proofs.Common.{◌≡◌, ℕ, zero, suc, ◌-◌, IsTrue, List, 
 use Rattle.std.specs.Prelude.{slice_get}
 use Rattle.std.proofs.lemmas.Bool.{eqb-true}
 use Rattle.bed_machine.specs.Memory.{Memory}
+use Rattle.bed_machine.proofs.WordLaws.{some_same}
 use Rattle.bed_lang.specs.declared.word.Name.{Name}
 use Rattle.bed_lang.specs.declared.logic.Arg.{Arg}
 use Rattle.bed_lang.specs.declared.logic.Pure.{Pure}
@@ -20,7 +21,6 @@ use Rattle.bed_sat.specs.Assertions.{ArgValue, Meaning, blank, set_params, arg_v
 use Rattle.bed_sat.proofs.PartLaws.{joins_comm, joins_empty}
 use Rattle.bed_sat.proofs.SatLaws.{meaning_more}
 use Rattle.bed_sat.proofs.InstanceLaws.{terms_true_with}
-use Rattle.bed_sat.proofs.FrameLaws.{some_same}
 use Rattle.bed_deriv.specs.declared.derivation.DArg.{DArg}
 use Rattle.bed_deriv.specs.declared.state.SymState.{SymState}
 use Rattle.bed_deriv.specs.Fresh.{every, known_arg, known_atom}

@@ -1,7 +1,7 @@
 -- What the atoms of a state that holds tell of their addresses and contents.
 use Rattle.std.proofs.Common.{◌≡◌, ◌≢◌, ℕ, zero, suc, List, [], ◌∷◌, slice_get, Option, Some, None, refl, ap, sym, ◌∙◌, subst, arith}
 use Rattle.bed_machine.specs.Memory.{Memory}
-use Rattle.bed_machine.proofs.WordLaws.{four_bytes}
+use Rattle.bed_machine.proofs.WordLaws.{four_bytes, some_same}
 use Rattle.bed_lang.specs.declared.word.Word.{Word}
 use Rattle.bed_lang.specs.declared.logic.Pure.{Pure}
 use Rattle.bed_lang.specs.declared.logic.Atom.{Atom}
@@ -12,7 +12,6 @@ use Rattle.bed_sat.specs.Parts.{Joins, Includes}
 use Rattle.bed_sat.specs.Facts.{IsTrueFact}
 use Rattle.bed_sat.specs.Assertions.{World, Meaning, IsTrueAtom}
 use Rattle.bed_sat.proofs.PartLaws.{joins_left, joins_right}
-use Rattle.bed_sat.proofs.FrameLaws.{some_same}
 use Rattle.bed_sat.proofs.BlockLaws.{meet_twice}
 use Rattle.bed_deriv.specs.PureRules.{address, bound_of}
 use Rattle.bed_check_pure.specs.States.{AreTrueAtoms}

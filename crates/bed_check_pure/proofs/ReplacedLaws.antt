@@ -3,9 +3,9 @@
 use Rattle.std.proofs.Common.{◌≡◌, ◌≢◌, ℕ, ◌+◌, ◌-◌, ◌*◌, ◌<◌, ◌≤◌, Some, List, [], ◌∷◌, ◌++◌, map, Contains, refl, sym, ◌∙◌, ap, ap₂, subst}
 use mathlib.Core.Path.{transport}
 use Rattle.bed_machine.specs.Memory.{Memory}
-use Rattle.bed_lang.specs.declared.word.Word.{Word, roll-Word, map-Word, ind-Word, fold-roll-Word}
+use Rattle.bed_lang.specs.declared.word.Word.{Word, roll-Word, map-Word, ind-Word}
 use Rattle.bed_lang.specs.declared.word.Word.TheOpen.{Word-F}
-use Rattle.bed_lang.specs.declared.word.Seq.{Seq, roll-Seq, map-Seq, ind-Seq, fold-roll-Seq}
+use Rattle.bed_lang.specs.declared.word.Seq.{Seq, roll-Seq, map-Seq, ind-Seq}
 use Rattle.bed_lang.specs.declared.word.Seq.TheOpen.{Seq-F}
 use Rattle.bed_lang.specs.declared.logic.Arg.{Arg}
 use Rattle.bed_lang.specs.declared.logic.Arg.TheVariants as arg
@@ -13,10 +13,11 @@ use Rattle.bed_lang.specs.declared.logic.Pure.{Pure}
 use Rattle.bed_lang.specs.declared.logic.Pure.TheVariants as pure
 use Rattle.bed_lang.specs.declared.logic.Atom.{Atom}
 use Rattle.bed_lang.specs.declared.logic.Atom.TheVariants as atom
-use Rattle.bed_lang.specs.Values.{wrap, Values, Variable, variable, value, value_step, list_value, list_value_step}
+use Rattle.bed_lang.specs.Values.{wrap, Values, Variable, variable, value, list_value}
 use Rattle.bed_lang.specs.Instances.{Instance, word_with, word_with_step, seq_with, seq_with_step, arg_with, args_with, pure_with, atom_with}
 use Rattle.bed_lang.specs.Forms.{word_form, seq_form}
 use Rattle.bed_lang.proofs.ValueLaws.{value-Number, value-Label, value-Add, value-Sub, value-Times, list_value-Nil, list_value-Cons, list_value-App}
+use Rattle.bed_lang.proofs.RollLaws.{value_roll, list_roll, word_with-roll, seq_with-roll}
 use Rattle.bed_forms.proofs.FormValues.{form-value}
 use Rattle.bed_forms.proofs.FormLaws.{pieces-value}
 use Rattle.bed_sat.specs.Cells.{IsCell, IsByte, IsBlock}
@@ -40,49 +41,43 @@ module _ (w : World) (ν : Values) (σ : Instance) (keeps : Keeps w.labels ν σ
   abbrev L : Seq → List ℕ
   L = list_value w.labels ν
 
-  word_of : (x : Word-F Word) → V (roll-Word x) ≡ value_step w.labels ν (map-Word Word ℕ V x)
-  word_of = fold-roll-Word ℕ (value_step w.labels ν)
-
   with_of : (x : Word-F Word) → V (word_with σ (roll-Word x)) ≡ V (word_with_step σ (map-Word Word Word (word_with σ) x))
-  with_of x = ap V (fold-roll-Word Word (word_with_step σ) x)
+  with_of x = ap V (word_with-roll σ x)
 
   abbrev IsKept : Word → Type 0
   IsKept a = V (word_with σ a) ≡ V a
 
   word_layer : (y : Word-F ((a : Word) × IsKept a)) → IsKept (roll-Word (map-Word _ _ (λ p. p.0) y))
-  word_layer (Word-F.Number n) = with_of (Word-F.Number n) ∙ value-Number w.labels ν n ∙ sym (word_of (Word-F.Number n))
-  word_layer (Word-F.Label f) = with_of (Word-F.Label f) ∙ value-Label w.labels ν f ∙ sym (word_of (Word-F.Label f))
-  word_layer (Word-F.Var x) = with_of (Word-F.Var x) ∙ keeps.words (variable x) ∙ sym (word_of (Word-F.Var x))
+  word_layer (Word-F.Number n) = with_of (Word-F.Number n) ∙ value-Number w.labels ν n ∙ sym (value_roll w.labels ν (Word-F.Number n))
+  word_layer (Word-F.Label f) = with_of (Word-F.Label f) ∙ value-Label w.labels ν f ∙ sym (value_roll w.labels ν (Word-F.Label f))
+  word_layer (Word-F.Var x) = with_of (Word-F.Var x) ∙ keeps.words (variable x) ∙ sym (value_roll w.labels ν (Word-F.Var x))
   word_layer (Word-F.Add a b) =
       with_of (Word-F.Add a.0 b.0) ∙ value-Add w.labels ν (word_with σ a.0) (word_with σ b.0)
-      ∙ ap₂ (λ m n. wrap (m + n)) a.1 b.1 ∙ sym (word_of (Word-F.Add a.0 b.0))
+      ∙ ap₂ (λ m n. wrap (m + n)) a.1 b.1 ∙ sym (value_roll w.labels ν (Word-F.Add a.0 b.0))
   word_layer (Word-F.Sub a b) =
       with_of (Word-F.Sub a.0 b.0) ∙ value-Sub w.labels ν (word_with σ a.0) (word_with σ b.0)
-      ∙ ap₂ (λ m n. wrap (m + (4294967296 - n))) a.1 b.1 ∙ sym (word_of (Word-F.Sub a.0 b.0))
+      ∙ ap₂ (λ m n. wrap (m + (4294967296 - n))) a.1 b.1 ∙ sym (value_roll w.labels ν (Word-F.Sub a.0 b.0))
   word_layer (Word-F.Times n a) =
-      with_of (Word-F.Times n a.0) ∙ value-Times w.labels ν n (word_with σ a.0) ∙ ap (λ m. wrap (n * m)) a.1 ∙ sym (word_of (Word-F.Times n a.0))
+      with_of (Word-F.Times n a.0) ∙ value-Times w.labels ν n (word_with σ a.0) ∙ ap (λ m. wrap (n * m)) a.1 ∙ sym (value_roll w.labels ν (Word-F.Times n a.0))
 
   word_kept : (a : Word) → IsKept a
   word_kept = ind-Word IsKept (λ x y is. subst (λ (z : Word-F Word). IsKept (roll-Word z)) is (word_layer y))
 
-  list_of : (x : Seq-F Seq) → L (roll-Seq x) ≡ list_value_step w.labels ν (map-Seq Seq (List ℕ) L x)
-  list_of = fold-roll-Seq (List ℕ) (list_value_step w.labels ν)
-
   seq_with_of : (x : Seq-F Seq) → L (seq_with σ (roll-Seq x)) ≡ L (seq_with_step σ (map-Seq Seq Seq (seq_with σ) x))
-  seq_with_of x = ap L (fold-roll-Seq Seq (seq_with_step σ) x)
+  seq_with_of x = ap L (seq_with-roll σ x)
 
   abbrev IsKeptList : Seq → Type 0
   IsKeptList s = L (seq_with σ s) ≡ L s
 
   seq_layer : (y : Seq-F ((s : Seq) × IsKeptList s)) → IsKeptList (roll-Seq (map-Seq _ _ (λ p. p.0) y))
-  seq_layer (Seq-F.Var x) = seq_with_of (Seq-F.Var x) ∙ keeps.lists (variable x) ∙ sym (list_of (Seq-F.Var x))
-  seq_layer Seq-F.Nil = seq_with_of Seq-F.Nil ∙ list_value-Nil w.labels ν ∙ sym (list_of Seq-F.Nil)
+  seq_layer (Seq-F.Var x) = seq_with_of (Seq-F.Var x) ∙ keeps.lists (variable x) ∙ sym (list_roll w.labels ν (Seq-F.Var x))
+  seq_layer Seq-F.Nil = seq_with_of Seq-F.Nil ∙ list_value-Nil w.labels ν ∙ sym (list_roll w.labels ν Seq-F.Nil)
   seq_layer (Seq-F.Cons a s) =
       seq_with_of (Seq-F.Cons a s.0) ∙ list_value-Cons w.labels ν (word_with σ a) (seq_with σ s.0)
-      ∙ ap₂ (λ v vs. v ∷ vs) (word_kept a) s.1 ∙ sym (list_of (Seq-F.Cons a s.0))
+      ∙ ap₂ (λ v vs. v ∷ vs) (word_kept a) s.1 ∙ sym (list_roll w.labels ν (Seq-F.Cons a s.0))
   seq_layer (Seq-F.App s t) =
       seq_with_of (Seq-F.App s.0 t.0) ∙ list_value-App w.labels ν (seq_with σ s.0) (seq_with σ t.0)
-      ∙ ap₂ (λ u v. u ++ v) s.1 t.1 ∙ sym (list_of (Seq-F.App s.0 t.0))
+      ∙ ap₂ (λ u v. u ++ v) s.1 t.1 ∙ sym (list_roll w.labels ν (Seq-F.App s.0 t.0))
 
   seq_kept : (s : Seq) → IsKeptList s
   seq_kept = ind-Seq IsKeptList (λ x y is. subst (λ (z : Seq-F Seq). IsKeptList (roll-Seq z)) is (seq_layer y))

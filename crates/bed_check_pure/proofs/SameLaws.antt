@@ -40,6 +40,10 @@ in_or_not xs x = by _ (is_member-Decides unsigned_Decides xs x)
 not_in_none : (x : ℕ) → Contains [] x → ⊥
 not_in_none x (k, l, e) = omega arith
 
+-- a word whose form is a constant has it as its value
+pub constant_word-value : (labels : List ℕ → ℕ) (ν : Values) (w : Word) → is_constant (word_form w) ≡ true → value labels ν w ≡ (word_form w).constant
+constant_word-value labels ν w h = constant-value labels ν w (empty_if_none (word_form w).parts h)
+
 module _ (codes : ℕ → Option (List ℕ)) (labels : List ℕ → ℕ) (ν : Values) where
   abbrev Is : Pure → Type 0
   Is = IsTrueFact codes labels ν
@@ -97,19 +101,16 @@ module _ (codes : ℕ → Option (List ℕ)) (labels : List ℕ → ℕ) (ν : V
   pub not_both : (p q : Pure) → negation p ≡ Some q → Is p → Is q → ⊥
   not_both p q e = (subst (Opposes p) e (opposes p)).1
 
-  number : (w : Word) → is_constant (word_form w) ≡ true → V w ≡ (word_form w).constant
-  number w h = constant-value labels ν w (empty_if_none (word_form w).parts h)
-
   is_number-value : (n : ℕ) (w : Word) → is_number n (word_form w) ≡ true → V w ≡ n
   is_number-value n w h =
-      let k = and_parts (is_constant (word_form w)) ((word_form w).constant == n) h in number w k.0 ∙ (unsigned_Decides (word_form w).constant n).0 k.1
+      let k = and_parts (is_constant (word_form w)) ((word_form w).constant == n) h in constant_word-value labels ν w k.0 ∙ (unsigned_Decides (word_form w).constant n).0 k.1
 
   -- two words with constant forms
   numbers : (a b : Word) (t : Bool) → (is_constant (word_form a) && is_constant (word_form b) && t) ≡ true
       → (V a ≡ (word_form a).constant) × (V b ≡ (word_form b).constant) × (t ≡ true)
   numbers a b t h =
       let k = and_parts (is_constant (word_form a) && is_constant (word_form b)) t h in
-      let j = and_parts (is_constant (word_form a)) (is_constant (word_form b)) k.0 in (number a j.0, number b j.1, k.1)
+      let j = and_parts (is_constant (word_form a)) (is_constant (word_form b)) k.0 in (constant_word-value labels ν a j.0, constant_word-value labels ν b j.1, k.1)
 
   at_most : (a b : Word) → at_most_by_norm (word_form a) (word_form b) ≡ true → V a ≤ V b
   at_most a b h =

@@ -9,7 +9,7 @@ use Rattle.std.proofs.lemmas.Bool.{and_parts, both_ways}
 use Rattle.bed_machine.specs.Memory.{Memory}
 use Rattle.bed_lang.specs.declared.word.Var.{Var}
 use Rattle.bed_lang.specs.declared.word.Var.TheVariants as var
-use Rattle.bed_lang.specs.declared.word.Word.{Word, Var as WordVar, Sub}
+use Rattle.bed_lang.specs.declared.word.Word.{Word, Var as WordVar}
 use Rattle.bed_lang.specs.declared.word.Seq.{Seq, Var as SeqVar}
 use Rattle.bed_lang.specs.declared.form.Key.{Key}
 use Rattle.bed_lang.specs.declared.form.Key.TheVariants as key
@@ -19,7 +19,7 @@ use Rattle.bed_lang.specs.declared.form.Piece.TheVariants.{Sequence}
 use Rattle.bed_lang.specs.declared.logic.Pure.{Pure}
 use Rattle.bed_lang.specs.declared.logic.Pure.TheVariants.{Equal, Same}
 use Rattle.bed_lang.specs.Values.{wrap, Values, Variable, Named, Old, Answer, Fresh, Hole, variable, same_variable, value, list_value}
-use Rattle.bed_lang.specs.Keys.{bare_key, same_key, key_text, key_order}
+use Rattle.bed_lang.specs.Keys.{same_key, key_text, key_order}
 use Rattle.bed_lang.specs.Forms.{Part, times_form, seq_form}
 use Rattle.bed_lang.specs.Coefficients.{key_value, parts_value, form_value, pieces_value, coefficient_in, ComesBefore, IsOrdered}
 use Rattle.bed_lang.specs.Instances.{Instance}
@@ -27,10 +27,10 @@ use Rattle.bed_lang.proofs.ValueLaws.{value-Var, value-small, list_value-Var, sa
 use Rattle.bed_lang.specs.Differences.{difference}
 use Rattle.bed_forms.proofs.KeyLaws.{text-bare, bare-value, order-self}
 use Rattle.bed_forms.proofs.FormValues.{times-form_value}
-use Rattle.bed_forms.proofs.FormOrder.{IsNormal, form-normal}
+use Rattle.bed_forms.proofs.FormOrder.{IsNormal}
 use Rattle.bed_forms.proofs.FormLaws.{pieces-value}
-use Rattle.bed_forms.proofs.SameForms.{same_key-decides}
-use Rattle.bed_forms.proofs.DifferenceLaws.{difference-form, difference-value}
+use Rattle.bed_forms.proofs.SameForms.{same_key-decides, text-of_bare}
+use Rattle.bed_forms.proofs.DifferenceLaws.{difference-value, difference-normal}
 use Rattle.bed_sat.specs.Facts.{IsTrueFact}
 use Rattle.bed_sat.specs.Assertions.{World}
 use Rattle.bed_deriv.specs.declared.derivation.DArg.{DArg}
@@ -62,16 +62,8 @@ of_occurrence Answer = refl
 of_occurrence (Fresh n) = refl
 of_occurrence Hole = refl
 
-text_of_bare : (k : Key) → key_text (bare_key k) ≡ key_text k
-text_of_bare (key.Var (var.Named x)) = refl
-text_of_bare (key.Var (var.Old x)) = refl
-text_of_bare (key.Var (var.Answer at)) = refl
-text_of_bare (key.Var (var.Fresh n)) = refl
-text_of_bare (key.Var var.Hole) = refl
-text_of_bare (key.Label f) = refl
-
 same_key-text : (a b : Key) → same_key a b ≡ true → key_text a ≡ key_text b
-same_key-text a b h = sym (text_of_bare a) ∙ ap key_text ((same_key-decides a b).0 h) ∙ text_of_bare b
+same_key-text a b h = sym (text-of_bare a) ∙ ap key_text ((same_key-decides a b).0 h) ∙ text-of_bare b
 
 text-same_key : (a b : Key) → key_text a ≡ key_text b → same_key a b ≡ true
 text-same_key a b e = (same_key-decides a b).1 (text-bare a b e)
@@ -210,14 +202,11 @@ module _ (labels : List ℕ → ℕ) (ν : Values) (v : Var) where
   difference_none : (a b : Word) → V a ≡ V b → W (difference a b) ≡ 0
   difference_none a b same = let d = difference-value labels ν a b in let l = value-small labels ν b in omega arith
 
-  difference_normal : (a b : Word) → IsNormal (difference a b)
-  difference_normal a b = subst IsNormal (sym (difference-form a b)) (form-normal (Sub a b))
-
   -- where the equation is true, what it gives for the variable has the variable's value
   solution_keeps : (codes : ℕ → Option (List ℕ)) (p : Pure) → IsTrueFact codes labels ν p → KeepsIf (solution v p)
   solution_keeps codes (Equal a b) t =
       solved_keeps (difference a b) (coefficient_in (key.Var v) (difference a b).parts)
-      (sym (form_apart (difference a b) (difference_normal a b)) ∙ difference_none a b t)
+      (sym (form_apart (difference a b) (difference-normal a b)) ∙ difference_none a b t)
   solution_keeps codes (Same s u) t = sequence_keeps (seq_form s) (seq_form u) (pieces-value labels ν s ∙ t ∙ sym (pieces-value labels ν u))
   solution_keeps codes _ t = tt
 

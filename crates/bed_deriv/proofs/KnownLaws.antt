@@ -1,6 +1,7 @@
 -- Trees whose fresh variables are known: by their parts, and with terms in place of variables.
 use Rattle.std.proofs.Common.{◌≡◌, ℕ, Bool, true, false, ◌&&◌, nat_lt, if◌then◌else◌, List, [], ◌∷◌, ◌++◌, Option, Some, None, refl, ap, sym, ◌∙◌, subst, arith}
 use Rattle.std.specs.Prelude.{bytes_eq}
+use Rattle.std.proofs.lemmas.Bool.{and_parts, and_from}
 use Rattle.bed_lang.specs.declared.word.Name.{Name}
 use Rattle.bed_lang.specs.declared.word.Sort.{Sort}
 use Rattle.bed_lang.specs.declared.word.Sort.TheVariants as sort
@@ -21,22 +22,15 @@ use Rattle.bed_lang.specs.declared.logic.Atom.TheVariants as atom
 use Rattle.bed_lang.specs.declared.logic.Term.{Term}
 use Rattle.bed_lang.specs.declared.logic.Term.TheVariants as term
 use Rattle.bed_lang.specs.Values.{Named, Old, Answer, Hole, variable, same_variable}
-use Rattle.bed_lang.specs.Instances.{Instance, word_with, word_with_step, seq_with, seq_with_step, arg_with, args_with, pure_with, atom_with, terms_with}
+use Rattle.bed_lang.specs.Instances.{Instance, word_with, seq_with, arg_with, args_with, pure_with, atom_with, terms_with}
+use Rattle.bed_lang.proofs.RollLaws.{word_with-roll, seq_with-roll}
 use Rattle.bed_deriv.specs.Fresh.{every, known_var, known_word, known_word_step, known_seq, known_seq_step, known_arg, known_pure, known_atom, known_term, known_value}
 use Rattle.bed_deriv.specs.Opening.{has_sort, word_in, seq_in, first_some, if_of, value_for, occurrence, word_or, seq_or, word_instead, seq_instead, replacing, word_or_0, seq_or_nil, alone, with_answer, facts_of, atoms_of}
-
-pub both : (p q : Bool) → (p && q) ≡ true → (p ≡ true) × (q ≡ true)
-both true true h = (refl, refl)
-both true false h = absurd (cc)
-both false q h = absurd (cc)
-
-pub and-true : (p q : Bool) → p ≡ true → q ≡ true → (p && q) ≡ true
-and-true p q h k = rw (h, k) refl
 
 pub every-append : {A : Type 0} (f : A → Bool) (xs ys : List A) → every f xs ≡ true → every f ys ≡ true → every f (xs ++ ys) ≡ true
 every-append f [] ys h k = k
 every-append f (x ∷ xs) ys h k =
-    let b = both (f x) (every f xs) h in and-true (f x) (every f (xs ++ ys)) b.0 (every-append f xs ys b.1 k)
+    let b = and_parts (f x) (every f xs) h in and_from (f x) (every f (xs ++ ys)) b.0 (every-append f xs ys b.1 k)
 
 module _ (next : ℕ) where
   known_roll : (x : Word-F Word) → known_word next (roll-Word x) ≡ known_word_step next (map-Word Word Bool (known_word next) x)
@@ -101,7 +95,7 @@ module _ (next : ℕ) (vs : List (Name × Arg)) (known : every (known_value next
   value-known : (s : Sort) (us : List (Name × Arg)) (x : List ℕ) → every (known_value next) us ≡ true → IsKnownOption (value_for s us x)
   value-known s [] x h = tt
   value-known s (v ∷ us) x h =
-      let b = both (known_value next v) (every (known_value next) us) h in
+      let b = and_parts (known_value next v) (every (known_value next) us) h in
       first-known (value_for s us x) (if_of s x v) (value-known s us x b.1) (if-known (bytes_eq v.0.bytes x && has_sort s v.1) v b.0)
 
   word-known : (a : Arg) → known_arg next a ≡ true → known_word next (word_in a) ≡ true
@@ -172,30 +166,27 @@ module _ (next : ℕ) (σ : Instance) (given : IsKnownInstance next σ) where
   abbrev StaysKnown : Word → Type 0
   StaysKnown w = known_word 0 w ≡ true → known_word next (word_with σ w) ≡ true
 
-  with_of : (x : Word-F Word) → word_with σ (roll-Word x) ≡ word_with_step σ (map-Word Word Word (word_with σ) x)
-  with_of = fold-roll-Word Word (word_with_step σ)
-
   abbrev known_is : Word → Type 0
   known_is w = known_word next w ≡ true
 
   two-words : (a b c : Word) → known_word next c ≡ known_word next a && known_word next b → known_is a → known_is b → known_is c
-  two-words a b c e h k = e ∙ and-true (known_word next a) (known_word next b) h k
+  two-words a b c e h k = e ∙ and_from (known_word next a) (known_word next b) h k
 
   word_layer : (y : Word-F ((w : Word) × StaysKnown w)) → StaysKnown (roll-Word (map-Word _ _ (λ p. p.0) y))
-  word_layer (Word-F.Number n) h = ap (known_word next) (with_of (Word-F.Number n)) ∙ known-Number next n
-  word_layer (Word-F.Label f) h = ap (known_word next) (with_of (Word-F.Label f)) ∙ known-Label next f
+  word_layer (Word-F.Number n) h = ap (known_word next) (word_with-roll σ (Word-F.Number n)) ∙ known-Number next n
+  word_layer (Word-F.Label f) h = ap (known_word next) (word_with-roll σ (Word-F.Label f)) ∙ known-Label next f
   word_layer (Word-F.Var x) h =
-      ap (known_word next) (with_of (Word-F.Var x)) ∙ given.words x (sym (known_roll 0 (Word-F.Var x)) ∙ h)
+      ap (known_word next) (word_with-roll σ (Word-F.Var x)) ∙ given.words x (sym (known_roll 0 (Word-F.Var x)) ∙ h)
   word_layer (Word-F.Add a b) h =
-      let k = both (known_word 0 a.0) (known_word 0 b.0) (sym (known_roll 0 (Word-F.Add a.0 b.0)) ∙ h) in
-      ap (known_word next) (with_of (Word-F.Add a.0 b.0))
+      let k = and_parts (known_word 0 a.0) (known_word 0 b.0) (sym (known_roll 0 (Word-F.Add a.0 b.0)) ∙ h) in
+      ap (known_word next) (word_with-roll σ (Word-F.Add a.0 b.0))
       ∙ two-words (word_with σ a.0) (word_with σ b.0) _ (known-Add next (word_with σ a.0) (word_with σ b.0)) (a.1 k.0) (b.1 k.1)
   word_layer (Word-F.Sub a b) h =
-      let k = both (known_word 0 a.0) (known_word 0 b.0) (sym (known_roll 0 (Word-F.Sub a.0 b.0)) ∙ h) in
-      ap (known_word next) (with_of (Word-F.Sub a.0 b.0))
+      let k = and_parts (known_word 0 a.0) (known_word 0 b.0) (sym (known_roll 0 (Word-F.Sub a.0 b.0)) ∙ h) in
+      ap (known_word next) (word_with-roll σ (Word-F.Sub a.0 b.0))
       ∙ two-words (word_with σ a.0) (word_with σ b.0) _ (known-Sub next (word_with σ a.0) (word_with σ b.0)) (a.1 k.0) (b.1 k.1)
   word_layer (Word-F.Times n a) h =
-      ap (known_word next) (with_of (Word-F.Times n a.0)) ∙ known-Times next n (word_with σ a.0) ∙ a.1 (sym (known_roll 0 (Word-F.Times n a.0)) ∙ h)
+      ap (known_word next) (word_with-roll σ (Word-F.Times n a.0)) ∙ known-Times next n (word_with σ a.0) ∙ a.1 (sym (known_roll 0 (Word-F.Times n a.0)) ∙ h)
 
   pub word-stays_known : (w : Word) → StaysKnown w
   word-stays_known = ind-Word StaysKnown (λ x y is. subst (λ (z : Word-F Word). StaysKnown (roll-Word z)) is (word_layer y))
@@ -203,21 +194,18 @@ module _ (next : ℕ) (σ : Instance) (given : IsKnownInstance next σ) where
   abbrev SeqStaysKnown : Seq → Type 0
   SeqStaysKnown s = known_seq 0 s ≡ true → known_seq next (seq_with σ s) ≡ true
 
-  seq_with_of : (x : Seq-F Seq) → seq_with σ (roll-Seq x) ≡ seq_with_step σ (map-Seq Seq Seq (seq_with σ) x)
-  seq_with_of = fold-roll-Seq Seq (seq_with_step σ)
-
   seq_layer : (y : Seq-F ((s : Seq) × SeqStaysKnown s)) → SeqStaysKnown (roll-Seq (map-Seq _ _ (λ p. p.0) y))
   seq_layer (Seq-F.Var x) h =
-      ap (known_seq next) (seq_with_of (Seq-F.Var x)) ∙ given.seqs x (sym (known_seq_roll 0 (Seq-F.Var x)) ∙ h)
-  seq_layer Seq-F.Nil h = ap (known_seq next) (seq_with_of Seq-F.Nil) ∙ known_seq-Nil next
+      ap (known_seq next) (seq_with-roll σ (Seq-F.Var x)) ∙ given.seqs x (sym (known_seq_roll 0 (Seq-F.Var x)) ∙ h)
+  seq_layer Seq-F.Nil h = ap (known_seq next) (seq_with-roll σ Seq-F.Nil) ∙ known_seq-Nil next
   seq_layer (Seq-F.Cons a s) h =
-      let k = both (known_word 0 a) (known_seq 0 s.0) (sym (known_seq_roll 0 (Seq-F.Cons a s.0)) ∙ h) in
-      ap (known_seq next) (seq_with_of (Seq-F.Cons a s.0)) ∙ known_seq-Cons next (word_with σ a) (seq_with σ s.0)
-      ∙ and-true _ _ (word-stays_known a k.0) (s.1 k.1)
+      let k = and_parts (known_word 0 a) (known_seq 0 s.0) (sym (known_seq_roll 0 (Seq-F.Cons a s.0)) ∙ h) in
+      ap (known_seq next) (seq_with-roll σ (Seq-F.Cons a s.0)) ∙ known_seq-Cons next (word_with σ a) (seq_with σ s.0)
+      ∙ and_from _ _ (word-stays_known a k.0) (s.1 k.1)
   seq_layer (Seq-F.App s t) h =
-      let k = both (known_seq 0 s.0) (known_seq 0 t.0) (sym (known_seq_roll 0 (Seq-F.App s.0 t.0)) ∙ h) in
-      ap (known_seq next) (seq_with_of (Seq-F.App s.0 t.0)) ∙ known_seq-App next (seq_with σ s.0) (seq_with σ t.0)
-      ∙ and-true _ _ (s.1 k.0) (t.1 k.1)
+      let k = and_parts (known_seq 0 s.0) (known_seq 0 t.0) (sym (known_seq_roll 0 (Seq-F.App s.0 t.0)) ∙ h) in
+      ap (known_seq next) (seq_with-roll σ (Seq-F.App s.0 t.0)) ∙ known_seq-App next (seq_with σ s.0) (seq_with σ t.0)
+      ∙ and_from _ _ (s.1 k.0) (t.1 k.1)
 
   pub seq-stays_known : (s : Seq) → SeqStaysKnown s
   seq-stays_known = ind-Seq SeqStaysKnown (λ x y is. subst (λ (z : Seq-F Seq). SeqStaysKnown (roll-Seq z)) is (seq_layer y))
@@ -230,17 +218,17 @@ module _ (next : ℕ) (σ : Instance) (given : IsKnownInstance next σ) where
   args-stay_known : (args : List Arg) → every (known_arg 0) args ≡ true → every (known_arg next) (args_with σ args) ≡ true
   args-stay_known [] h = refl
   args-stay_known (a ∷ args) h =
-      let k = both (known_arg 0 a) (every (known_arg 0) args) h in and-true _ _ (arg-stays_known a k.0) (args-stay_known args k.1)
+      let k = and_parts (known_arg 0 a) (every (known_arg 0) args) h in and_from _ _ (arg-stays_known a k.0) (args-stay_known args k.1)
 
   words-stay_known : (a b : Word) → (known_word 0 a && known_word 0 b) ≡ true
       → (known_word next (word_with σ a) && known_word next (word_with σ b)) ≡ true
   words-stay_known a b h =
-      let k = both (known_word 0 a) (known_word 0 b) h in and-true _ _ (word-stays_known a k.0) (word-stays_known b k.1)
+      let k = and_parts (known_word 0 a) (known_word 0 b) h in and_from _ _ (word-stays_known a k.0) (word-stays_known b k.1)
 
   member-stays_known : (a : Word) (s : Seq) → (known_word 0 a && known_seq 0 s) ≡ true
       → (known_word next (word_with σ a) && known_seq next (seq_with σ s)) ≡ true
   member-stays_known a s h =
-      let k = both (known_word 0 a) (known_seq 0 s) h in and-true _ _ (word-stays_known a k.0) (seq-stays_known s k.1)
+      let k = and_parts (known_word 0 a) (known_seq 0 s) h in and_from _ _ (word-stays_known a k.0) (seq-stays_known s k.1)
 
   pub fact-stays_known : (p : Pure) → known_pure 0 p ≡ true → known_pure next (pure_with σ p) ≡ true
   fact-stays_known (pure.Equal a b) h = words-stay_known a b h
@@ -248,7 +236,7 @@ module _ (next : ℕ) (σ : Instance) (given : IsKnownInstance next σ) where
   fact-stays_known (pure.Less a b) h = words-stay_known a b h
   fact-stays_known (pure.AtMost a b) h = words-stay_known a b h
   fact-stays_known (pure.Same s t) h =
-      let k = both (known_seq 0 s) (known_seq 0 t) h in and-true _ _ (seq-stays_known s k.0) (seq-stays_known t k.1)
+      let k = and_parts (known_seq 0 s) (known_seq 0 t) h in and_from _ _ (seq-stays_known s k.0) (seq-stays_known t k.1)
   fact-stays_known (pure.Member a s) h = member-stays_known a s h
   fact-stays_known (pure.NonMember a s) h = member-stays_known a s h
   fact-stays_known (pure.Code a name) h = word-stays_known a h
@@ -262,14 +250,14 @@ module _ (next : ℕ) (σ : Instance) (given : IsKnownInstance next σ) where
   -- the facts and the atoms of terms that are opened
   pub facts-opened : (ts : List Term) → every (known_term 0) ts ≡ true → every (known_pure next) (facts_of (terms_with σ ts)) ≡ true
   facts-opened [] h = refl
-  facts-opened (term.Emp ∷ ts) h = facts-opened ts (both true (every (known_term 0) ts) h).1
+  facts-opened (term.Emp ∷ ts) h = facts-opened ts (and_parts true (every (known_term 0) ts) h).1
   facts-opened (term.Pure p ∷ ts) h =
-      let b = both (known_pure 0 p) (every (known_term 0) ts) h in and-true _ _ (fact-stays_known p b.0) (facts-opened ts b.1)
-  facts-opened (term.Atom x ∷ ts) h = facts-opened ts (both (known_atom 0 x) (every (known_term 0) ts) h).1
+      let b = and_parts (known_pure 0 p) (every (known_term 0) ts) h in and_from _ _ (fact-stays_known p b.0) (facts-opened ts b.1)
+  facts-opened (term.Atom x ∷ ts) h = facts-opened ts (and_parts (known_atom 0 x) (every (known_term 0) ts) h).1
 
   pub atoms-opened : (ts : List Term) → every (known_term 0) ts ≡ true → every (known_atom next) (atoms_of (terms_with σ ts)) ≡ true
   atoms-opened [] h = refl
-  atoms-opened (term.Emp ∷ ts) h = atoms-opened ts (both true (every (known_term 0) ts) h).1
-  atoms-opened (term.Pure p ∷ ts) h = atoms-opened ts (both (known_pure 0 p) (every (known_term 0) ts) h).1
+  atoms-opened (term.Emp ∷ ts) h = atoms-opened ts (and_parts true (every (known_term 0) ts) h).1
+  atoms-opened (term.Pure p ∷ ts) h = atoms-opened ts (and_parts (known_pure 0 p) (every (known_term 0) ts) h).1
   atoms-opened (term.Atom x ∷ ts) h =
-      let b = both (known_atom 0 x) (every (known_term 0) ts) h in and-true _ _ (atom-stays_known x b.0) (atoms-opened ts b.1)
+      let b = and_parts (known_atom 0 x) (every (known_term 0) ts) h in and_from _ _ (atom-stays_known x b.0) (atoms-opened ts b.1)

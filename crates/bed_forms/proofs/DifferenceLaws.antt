@@ -1,7 +1,8 @@
 -- What constant forms, differences and sequences with no pieces tell of values, whatever labels and variables are.
-use Rattle.std.proofs.Common.{◌≡◌, ◌≢◌, ◌↔◌, ℕ, ◌+◌, ◌-◌, ◌<◌, Bool, true, false, ◌||◌, ◌⊎◌, List, [], refl, ap, sym, ◌∙◌, subst, arith, inl, inr, Result, Ok, Err, IfOk}
+use Rattle.std.proofs.Common.{◌≡◌, ◌≢◌, ◌↔◌, ℕ, ◌+◌, ◌-◌, ◌<◌, true, List, [], ap, sym, ◌∙◌, subst, arith, inl, inr, Result, Ok, Err, IfOk}
 use Rattle.std.specs.Bool.{Decides}
 use Rattle.std.specs.declared.alloc.AllocError.{AllocError}
+use Rattle.std.proofs.lemmas.Bool.{or_cases}
 use Rattle.bed_lang.specs.declared.word.Word.{Word, Sub, fold-roll-Word}
 use Rattle.bed_lang.specs.declared.word.Word.TheOpen.{Word-F}
 use Rattle.bed_lang.specs.declared.word.Word.TheVariants.{rolls-Sub}
@@ -18,15 +19,11 @@ use Rattle.bed_forms.proofs.FormOrder.{IsNormal, form-normal}
 use Rattle.bed_forms.proofs.FormLaws.{pieces-value}
 use Rattle.bed_forms.proofs.SameForms.{normal-decides}
 
-either : (p q : Bool) → (p || q) ≡ true → (p ≡ true) ⊎ (q ≡ true)
-either true q h = inl refl
-either false q h = inr h
-
 -- a difference has the form of the word `a - b`
 pub difference-form : (a b : Word) → difference a b ≡ word_form (Sub a b)
 difference-form a b = sym (ap word_form (sym (rolls-Sub a b)) ∙ fold-roll-Word Form form_step (Word-F.Sub a b))
 
-difference-normal : (a b : Word) → IsNormal (difference a b)
+pub difference-normal : (a b : Word) → IsNormal (difference a b)
 difference-normal a b = subst IsNormal (sym (difference-form a b)) (form-normal (Sub a b))
 
 -- the constant of a word's form, and that of a difference, is a word
@@ -89,7 +86,7 @@ module _ (labels : List ℕ → ℕ) (ν : Values) where
 
   -- where two differences are the same up to sign, both equations are true or neither is
   pub same_difference-equal : (a b c d : Word) → same_difference a b c d ≡ true → (value labels ν a ≡ value labels ν b) ↔ (value labels ν c ≡ value labels ν d)
-  same_difference-equal a b c d h = elim (either (same_form (difference a b) (difference c d)) (same_form (difference a b) (difference d c)) h) [
+  same_difference-equal a b c d h = elim (or_cases (same_form (difference a b) (difference c d)) (same_form (difference a b) (difference d c)) h) [
     | inl s ↦ (let e = (same_difference_form-decides a b c d).0 s in (difference-equal c d a b (sym e), difference-equal a b c d e))
     | inr s ↦ (let e = (same_difference_form-decides a b d c).0 s in (λ k. sym (difference-equal d c a b (sym e) k), λ k. difference-equal a b d c e (sym k)))
   ]

@@ -42,7 +42,7 @@ same_key-text (key.Label f) (key.Var (var.Fresh n)) = refl
 same_key-text (key.Label f) (key.Var var.Hole) = refl
 same_key-text _ _ = refl
 
-text-of_bare : (k : Key) → key_text (bare_key k) ≡ key_text k
+pub text-of_bare : (k : Key) → key_text (bare_key k) ≡ key_text k
 text-of_bare (key.Var x) = ap variable_text (bare-variable x)
 text-of_bare (key.Label f) = refl
 

@@ -1,8 +1,9 @@
 -- With which class a text of a right side begins.
 use Rattle.std.proofs.Common.{◌≡◌, true, nat_eq, [], ◌∷◌, ◌++◌, refl, sym, subst}
+use Rattle.std.proofs.lemmas.Bool.{or_right, or_left}
 use Rattle.bed_grammar.specs.Grammar.{Rhs, seq, alt, ref, Value, Grammar, Marked, Derives, shift, epsilon, sequence, left, right, expand}
 use Rattle.bed_grammar.specs.Tables.{has, Tables, nullable, first, IsLl1}
-use Rattle.bed_grammar.proofs.Sets.{or_left, or_right, implied, eq_refl, has_left, has_right, subset_has}
+use Rattle.bed_grammar.proofs.Sets.{implied, eq_refl, has_left, has_right, subset_has}
 
 module _ (G : Grammar) (T : Tables G) where
   abbrev pub Begins : Rhs G.Nonterminal G.Limit → Marked G.Token G.Limit → Type 0

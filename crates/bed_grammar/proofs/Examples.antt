@@ -1,10 +1,10 @@
 -- Each right side has a text, of tokens that a text can have.
 use Rattle.std.proofs.Common.{◌≡◌, ℕ, zero, suc, ◌<◌, nat_lt, Bool, true, false, ◌||◌, [], ◌∷◌, ◌++◌, Option, All, refl, sym, subst, inl, inr, arith}
 use Rattle.std.proofs.lemmas.List.Elements.{All-nil, All-cons, All-append}
-use Rattle.std.proofs.lemmas.Bool.{ltb-true}
+use Rattle.std.proofs.lemmas.Bool.{ltb-true, and_parts}
 use Rattle.bed_grammar.specs.Grammar.{Rhs, token, empty, seq, alt, ref, Value, Grammar, Marked, tokens_of, Derives, shift, epsilon, sequence, left, right, expand}
 use Rattle.bed_grammar.specs.Tables.{Tables, IsLl1, is_lower, is_ll1}
-use Rattle.bed_grammar.proofs.Sets.{and_parts, tokens_of-append}
+use Rattle.bed_grammar.proofs.Sets.{tokens_of-append}
 
 module _ (G : Grammar) (T : Tables G) where
   -- a text of a right side, of tokens that a text can have

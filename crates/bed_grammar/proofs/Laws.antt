@@ -6,7 +6,8 @@ use Rattle.bed_grammar.specs.Exact.{peek, offending, PassesAt}
 use Rattle.bed_grammar.specs.Tables.{has, disjoint, class_at, lookahead, Tables, nullable, first, follow_last, IsLl1}
 use Rattle.bed_grammar.specs.Parsing.{Accepts, Rejects}
 use Rattle.std.proofs.lemmas.List.Elements.{All-nil, All-append}
-use Rattle.bed_grammar.proofs.Sets.{and_parts, not_true, both_ways, eq_refl, tokens_of-append, unmarked-append, tokens_of-unmarked, peek_append, tokens_of-append_more}
+use Rattle.std.proofs.lemmas.Bool.{and_parts, not-true}
+use Rattle.bed_grammar.proofs.Sets.{both_ways, eq_refl, tokens_of-append, unmarked-append, tokens_of-unmarked, peek_append, tokens_of-append_more}
 use Rattle.bed_grammar.proofs.Examples.{Example}
 use Rattle.bed_grammar.proofs.Begins.{begins}
 use Rattle.bed_grammar.proofs.Derivations.{token_parts, empty_parts, seq_parts, alt_parts, ref_parts}
@@ -191,7 +192,7 @@ module _ (G : Grammar) (T : Tables G) where
 
   module _ (c : IsLl1 G T) (a b : Rhs G.Nonterminal G.Limit) (l : (not (nullable G T a) && disjoint (first G T a) (first G T b)) ≡ true) where
     lone : nullable G T a ≡ false
-    lone = not_true _ (and_parts _ _ l).0
+    lone = not-true _ (and_parts _ _ l).0
 
     differ : disjoint (first G T a) (first G T b) ≡ true
     differ = (and_parts _ _ l).1

@@ -1,11 +1,11 @@
 -- The function that reads is exact.
 use Rattle.std.proofs.Common.{◌≡◌, ℕ, zero, suc, ◌+◌, ◌*◌, ◌<◌, ◌≤◌, Bool, true, false, ◌&&◌, ◌||◌, not, cond, nat_eq, nat_lt, List, [], ◌∷◌, ◌++◌, length, length-append, Option, Some, None, Result, Ok, Err, refl, ap, sym, ◌∙◌, subst, ◌⊎◌, inl, inr, arith, mul-le-mul_right}
-use Rattle.std.proofs.lemmas.Bool.{ltb-true}
+use Rattle.std.proofs.lemmas.Bool.{ltb-true, and_parts, or_right}
 use Rattle.bed_grammar.specs.Grammar.{Rhs, token, empty, seq, alt, ref, Value, Grammar, unmarked, Derives}
 use Rattle.bed_grammar.specs.Exact.{Outcome}
 use Rattle.bed_grammar.specs.Tables.{has, disjoint, lookahead, Tables, nullable, first, follow_last, is_ll1, is_below, left_below, IsLl1}
 use Rattle.bed_grammar.specs.Parsing.{outcome_map, outcome_then, chosen, shifted, read_token, read_rhs, parse_within, parse, Accepts, IsParse}
-use Rattle.bed_grammar.proofs.Sets.{and_parts, implied, or_right, both_ways, eq_is}
+use Rattle.bed_grammar.proofs.Sets.{implied, both_ways, eq_is}
 use Rattle.bed_grammar.proofs.Begins.{begins}
 use Rattle.bed_grammar.proofs.Examples.{Example, example}
 use Rattle.bed_grammar.proofs.Laws.{token_accepts, token_rejects_limit, token_rejects, token_rejects_end, empty_accepts, seq_accepts, seq_rejects_first, seq_rejects_second, left_accepts, left_rejects, right_accepts, right_rejects, ref_accepts, ref_rejects}

@@ -1,28 +1,10 @@
 -- Sets of classes, and lists of marked tokens.
-use Rattle.std.proofs.Common.{◌≡◌, ℕ, Bool, true, false, ◌&&◌, ◌||◌, not, nat_eq, List, [], ◌∷◌, ◌++◌, None, refl, ap, sym, ◌∙◌, subst, append_assoc}
+use Rattle.std.proofs.Common.{◌≡◌, ℕ, Bool, true, false, ◌||◌, not, nat_eq, List, [], ◌∷◌, ◌++◌, None, refl, ap, sym, ◌∙◌, subst, append_assoc}
 use Rattle.std.specs.Cmp.{unsigned_Decides}
+use Rattle.std.proofs.lemmas.Bool.{and_parts, or_right, or_left, or_parts, not-true}
 use Rattle.bed_grammar.specs.Grammar.{Marked, tokens_of, unmarked, IsUnmarked}
 use Rattle.bed_grammar.specs.Exact.{peek}
 use Rattle.bed_grammar.specs.Tables.{has, disjoint, subset}
-
-pub and_parts : (a b : Bool) → (a && b) ≡ true → (a ≡ true) × (b ≡ true)
-and_parts true b h = (refl, h)
-and_parts false b h = cc
-
-pub or_right : (a b : Bool) → b ≡ true → (a || b) ≡ true
-or_right true b h = refl
-or_right false b h = h
-
-pub or_left : (a b : Bool) → a ≡ true → (a || b) ≡ true
-or_left a b h = rw h refl
-
-pub or_false : (a b : Bool) → (a || b) ≡ false → (a ≡ false) × (b ≡ false)
-or_false true b h = cc
-or_false false b h = (refl, h)
-
-pub not_true : (a : Bool) → not a ≡ true → a ≡ false
-not_true true h = cc
-not_true false h = refl
 
 pub both_ways : {A : Type 0} (b : Bool) → b ≡ true → b ≡ false → A
 both_ways b h k = cc
@@ -46,7 +28,7 @@ has_append (x ∷ xs) ys c = go (nat_eq c x) (has_append xs ys c)
     go false e = e
 
 pub has_none : (xs ys : List ℕ) (c : ℕ) → has (xs ++ ys) c ≡ false → (has xs c ≡ false) × (has ys c ≡ false)
-has_none xs ys c h = or_false _ _ (sym (has_append xs ys c) ∙ h)
+has_none xs ys c h = or_parts _ _ (sym (has_append xs ys c) ∙ h)
 
 pub has_left : (xs ys : List ℕ) (c : ℕ) → has xs c ≡ true → has (xs ++ ys) c ≡ true
 has_left xs ys c h = has_append xs ys c ∙ or_left _ _ h
@@ -59,7 +41,7 @@ disjoint_has [] ys c a h k = cc
 disjoint_has {A} (x ∷ xs) ys c a h k = go (λ h. disjoint_has {A = A} xs ys c (and_parts _ _ a).1 h k) (nat_eq c x) refl
   where
     go : (has xs c ≡ true → A) → (b : Bool) → nat_eq c x ≡ b → A
-    go f true e = both_ways (has ys c) k (subst (λ z. has ys z ≡ false) (sym (eq_is c x e)) (not_true _ (and_parts _ _ a).0))
+    go f true e = both_ways (has ys c) k (subst (λ z. has ys z ≡ false) (sym (eq_is c x e)) (not-true _ (and_parts _ _ a).0))
     go f false e = f (subst (λ b. (b || has xs c) ≡ true) e h)
 
 pub disjoint_none : (xs ys : List ℕ) (c : ℕ) → disjoint xs ys ≡ true → has ys c ≡ true → has xs c ≡ false

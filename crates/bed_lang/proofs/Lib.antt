@@ -1,1 +1,2 @@
+pub mod RollLaws
 pub mod ValueLaws

@@ -7,34 +7,32 @@ use Rattle.bed_lang.specs.declared.word.Var.TheVariants as var
 use Rattle.bed_lang.specs.declared.word.Word.{Word, roll-Word, map-Word, Number, Var as Variable, Label, Add, Sub, Times, ind-Word, fold-roll-Word}
 use Rattle.bed_lang.specs.declared.word.Word.TheOpen.{Word-F}
 use Rattle.bed_lang.specs.declared.word.Word.TheVariants.{rolls-Number, rolls-Var, rolls-Label, rolls-Add, rolls-Sub, rolls-Times}
-use Rattle.bed_lang.specs.declared.word.Seq.{Seq, roll-Seq, map-Seq, Var as SeqVariable, Nil, Cons, App, ind-Seq, fold-roll-Seq}
+use Rattle.bed_lang.specs.declared.word.Seq.{Seq, Var as SeqVariable, Nil, Cons, App, ind-Seq}
 use Rattle.bed_lang.specs.declared.word.Seq.TheOpen.{Seq-F}
 use Rattle.bed_lang.specs.declared.word.Seq.TheVariants.{rolls-Var as seq_rolls-Var, rolls-Nil, rolls-Cons, rolls-App}
 use Rattle.bed_lang.specs.Same.{same_var}
-use Rattle.bed_lang.specs.Values.{wrap, Values, variable, same_variable, set_word, value, value_step, list_value, list_value_step}
+use Rattle.bed_lang.specs.Values.{wrap, Values, variable, same_variable, set_word, value, value_step, list_value}
 use Rattle.bed_lang.specs.Substitution.{replaced, replaced_step, HasValueWith}
+use Rattle.bed_lang.proofs.RollLaws.{value_roll, list_roll}
 
 module _ (labels : List ℕ → ℕ) (ν : Values) where
-  value_roll : (x : Word-F Word) → value labels ν (roll-Word x) ≡ value_step labels ν (map-Word Word ℕ (value labels ν) x)
-  value_roll = fold-roll-Word ℕ (value_step labels ν)
-
   pub value-Number : (n : ℕ) → value labels ν (Number n) ≡ wrap n
-  value-Number n = ap (value labels ν) (sym (rolls-Number n)) ∙ value_roll (Word-F.Number n)
+  value-Number n = ap (value labels ν) (sym (rolls-Number n)) ∙ value_roll labels ν (Word-F.Number n)
 
   pub value-Var : (x : Var) → value labels ν (Variable x) ≡ wrap (ν.words (variable x))
-  value-Var x = ap (value labels ν) (sym (rolls-Var x)) ∙ value_roll (Word-F.Var x)
+  value-Var x = ap (value labels ν) (sym (rolls-Var x)) ∙ value_roll labels ν (Word-F.Var x)
 
   pub value-Label : (f : Name) → value labels ν (Label f) ≡ wrap (labels f.bytes)
-  value-Label f = ap (value labels ν) (sym (rolls-Label f)) ∙ value_roll (Word-F.Label f)
+  value-Label f = ap (value labels ν) (sym (rolls-Label f)) ∙ value_roll labels ν (Word-F.Label f)
 
   pub value-Add : (a b : Word) → value labels ν (Add a b) ≡ wrap (value labels ν a + value labels ν b)
-  value-Add a b = ap (value labels ν) (sym (rolls-Add a b)) ∙ value_roll (Word-F.Add a b)
+  value-Add a b = ap (value labels ν) (sym (rolls-Add a b)) ∙ value_roll labels ν (Word-F.Add a b)
 
   pub value-Sub : (a b : Word) → value labels ν (Sub a b) ≡ wrap (value labels ν a + (4294967296 - value labels ν b))
-  value-Sub a b = ap (value labels ν) (sym (rolls-Sub a b)) ∙ value_roll (Word-F.Sub a b)
+  value-Sub a b = ap (value labels ν) (sym (rolls-Sub a b)) ∙ value_roll labels ν (Word-F.Sub a b)
 
   pub value-Times : (n : ℕ) (a : Word) → value labels ν (Times n a) ≡ wrap (n * value labels ν a)
-  value-Times n a = ap (value labels ν) (sym (rolls-Times n a)) ∙ value_roll (Word-F.Times n a)
+  value-Times n a = ap (value labels ν) (sym (rolls-Times n a)) ∙ value_roll labels ν (Word-F.Times n a)
 
   abbrev IsWord : Word → Type 0
   IsWord w = value labels ν w < 4294967296
@@ -52,22 +50,19 @@ module _ (labels : List ℕ → ℕ) (ν : Values) where
 
   -- every value is a word
   pub value-small : (w : Word) → value labels ν w < 4294967296
-  value-small = ind-Word IsWord (λ x y is. subst (λ n. n < 4294967296) (sym (value_roll x)) (small_layer (map-Word Word ℕ (value labels ν) x)))
-
-  list_roll : (x : Seq-F Seq) → list_value labels ν (roll-Seq x) ≡ list_value_step labels ν (map-Seq Seq (List ℕ) (list_value labels ν) x)
-  list_roll = fold-roll-Seq (List ℕ) (list_value_step labels ν)
+  value-small = ind-Word IsWord (λ x y is. subst (λ n. n < 4294967296) (sym (value_roll labels ν x)) (small_layer (map-Word Word ℕ (value labels ν) x)))
 
   pub list_value-Var : (x : Var) → list_value labels ν (SeqVariable x) ≡ map wrap (ν.lists (variable x))
-  list_value-Var x = ap (list_value labels ν) (sym (seq_rolls-Var x)) ∙ list_roll (Seq-F.Var x)
+  list_value-Var x = ap (list_value labels ν) (sym (seq_rolls-Var x)) ∙ list_roll labels ν (Seq-F.Var x)
 
   pub list_value-Nil : list_value labels ν Nil ≡ []
-  list_value-Nil = ap (list_value labels ν) (sym rolls-Nil) ∙ list_roll Seq-F.Nil
+  list_value-Nil = ap (list_value labels ν) (sym rolls-Nil) ∙ list_roll labels ν Seq-F.Nil
 
   pub list_value-Cons : (a : Word) (s : Seq) → list_value labels ν (Cons a s) ≡ value labels ν a ∷ list_value labels ν s
-  list_value-Cons a s = ap (list_value labels ν) (sym (rolls-Cons a s)) ∙ list_roll (Seq-F.Cons a s)
+  list_value-Cons a s = ap (list_value labels ν) (sym (rolls-Cons a s)) ∙ list_roll labels ν (Seq-F.Cons a s)
 
   pub list_value-App : (s t : Seq) → list_value labels ν (App s t) ≡ list_value labels ν s ++ list_value labels ν t
-  list_value-App s t = ap (list_value labels ν) (sym (rolls-App s t)) ∙ list_roll (Seq-F.App s t)
+  list_value-App s t = ap (list_value labels ν) (sym (rolls-App s t)) ∙ list_roll labels ν (Seq-F.App s t)
 
 -- a test of two variables is a test of what they stand for
 pub same_var_is : (u v : Var) → same_var u v ≡ same_variable (variable u) (variable v)

@@ -6,6 +6,7 @@ use Rattle.std.specs.Cmp.{unsigned_Decides}
 use Rattle.std.specs.Str.{bytes_eq}
 use Rattle.std.proofs.lemmas.Bool.Decides.{nat_tests}
 use Rattle.std.proofs.lemmas.Slice.Eq.{starts_is}
+use Rattle.std.proofs.lemmas.Bool.{and_parts}
 use Rattle.bed_lex.specs.declared.token.TheConstants.{WORDS, MARKS}
 use Rattle.bed_lex.specs.Words.{reserved_words, marks, fixed_words, longest_first}
 use Rattle.bed_lex.specs.Tokens.{stands, fixed_word, mark_at, IsLongestMark}
@@ -38,18 +39,10 @@ pub mark_in_marks : (text : List ℕ) → find (stands text) (map (λ m. m.now) 
 unfolding mark_at
 mark_in_marks text = ap (find (stands text)) marks_are
 
-and_first : (a b : Bool) → (a && b) ≡ true → a ≡ true
-and_first true b h = refl
-and_first false b h = absurd (cc)
-
-and_second : (a b : Bool) → (a && b) ≡ true → b ≡ true
-and_second true b h = h
-and_second false b h = absurd (cc)
-
 -- what begins a text isn't longer
 fits : (text mark : List ℕ) → stands text mark ≡ true → length mark ≤ length text
 fits text mark h =
-    let all : text ≡ mark ++ drop (length mark) text = (starts_is unsigned_Decides text mark (starts_with nat_eq text mark) refl).0 (and_first _ _ h) in
+    let all : text ≡ mark ++ drop (length mark) text = (starts_is unsigned_Decides text mark (starts_with nat_eq text mark) refl).0 (and_parts _ _ h).0 in
     omega (arith, ap length all, length-append mark (drop (length mark) text))
 
 lt_true : (n : ℕ) → nat_lt 0 n ≡ true → 0 < n
@@ -61,10 +54,10 @@ le_true n k h = grind (arith, nat_tests)
 -- a test of each item holds of one that is found
 found_passes : {X : Type 0} (q p : X → Bool) (xs : List X) (x : X) → list_all q xs ≡ true → find p xs ≡ Some x → (q x ≡ true) × (p x ≡ true)
 found_passes q p [] x all e = absurd (cc)
-found_passes {X = X} q p (y ∷ ys) x all e = by_test (p y) refl (found_passes q p ys x (and_second (q y) (list_all q ys) all))
+found_passes {X = X} q p (y ∷ ys) x all e = by_test (p y) refl (found_passes q p ys x (and_parts (q y) (list_all q ys) all).1)
   where
     by_test : (b : Bool) → p y ≡ b → (find p ys ≡ Some x → (q x ≡ true) × (p x ≡ true)) → (q x ≡ true) × (p x ≡ true)
-    by_test true t later = let same : y ≡ x = some_same (sym (first t) ∙ e) in subst (λ (z : X). (q z ≡ true) × (p z ≡ true)) same (and_first (q y) (list_all q ys) all, t)
+    by_test true t later = let same : y ≡ x = some_same (sym (first t) ∙ e) in subst (λ (z : X). (q z ≡ true) × (p z ≡ true)) same ((and_parts (q y) (list_all q ys) all).0, t)
       where
         first : p y ≡ true → find p (y ∷ ys) ≡ Some y
         first h = rw h refl
@@ -90,14 +83,14 @@ falls (x ∷ xs) = list_all (λ y. nat_le (length y) (length x)) xs && falls xs
 -- a test of each item holds of each item
 passes : {X : Type 0} (p : X → Bool) (xs : List X) (k : ℕ) (x : X) → list_all p xs ≡ true → slice_get xs k ≡ Some x → p x ≡ true
 passes p [] k x all at = absurd (cc)
-passes p (y ∷ ys) zero x all at = let same : y ≡ x = cc in subst (λ (z : _). p z ≡ true) same (and_first (p y) (list_all p ys) all)
-passes p (y ∷ ys) (suc k) x all at = passes p ys k x (and_second (p y) (list_all p ys) all) at
+passes p (y ∷ ys) zero x all at = let same : y ≡ x = cc in subst (λ (z : _). p z ≡ true) same (and_parts (p y) (list_all p ys) all).0
+passes p (y ∷ ys) (suc k) x all at = passes p ys k x (and_parts (p y) (list_all p ys) all).1 at
 
 first_is_longest : (p : List ℕ → Bool) (xs : List (List ℕ)) (x other : List ℕ) (k : ℕ) → falls xs ≡ true → find p xs ≡ Some x
     → slice_get xs k ≡ Some other → p other ≡ true → length other ≤ length x
 first_is_longest p [] x other k h e at there = absurd (cc)
 first_is_longest p (y ∷ ys) x other k h e at there =
-    by_test (p y) refl k at (λ j. first_is_longest p ys x other j (and_second _ (falls ys) h))
+    by_test (p y) refl k at (λ j. first_is_longest p ys x other j (and_parts _ (falls ys) h).1)
   where
     some_same : (a b : List ℕ) → ◌≡◌ {A = Option (List ℕ)} (Some a) (Some b) → a ≡ b
     some_same a b q = cc
@@ -109,7 +102,7 @@ first_is_longest p (y ∷ ys) x other k h e at there =
         omega (arith, ap length same, ap length this)
     by_test true t (suc i) at' later =
         let same : y ≡ x = some_same y x (sym (rw t refl) ∙ e) in
-        let short : length other ≤ length y = le_true _ _ (passes (λ z. nat_le (length z) (length y)) ys i other (and_first _ (falls ys) h) at') in
+        let short : length other ≤ length y = le_true _ _ (passes (λ z. nat_le (length z) (length y)) ys i other (and_parts _ (falls ys) h).0 at') in
         omega (arith, ap length same, short)
     by_test false t zero at' later = let this : y ≡ other = some_same y other at' in let no : p other ≡ false = subst (λ (z : List ℕ). p z ≡ false) this t in absurd (cc)
     by_test false t (suc i) at' later = later i (sym (rw t refl) ∙ e) at' there

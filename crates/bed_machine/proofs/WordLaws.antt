@@ -20,7 +20,7 @@ pub record FourBytes (m : Memory) (a v : ℕ) : Type 0 where
   pub in_range : a ≤ 4294967292
   pub sum : v ≡ low + 256 * second + 65536 * third + 16777216 * high
 
-some_same : {A : Type 0} {x y : A} → ◌≡◌ {A = Option A} (Some x) (Some y) → x ≡ y
+pub some_same : {A : Type 0} {x y : A} → ◌≡◌ {A = Option A} (Some x) (Some y) → x ≡ y
 some_same e = cc
 
 four_of : (m : Memory) (a v : ℕ) → a ≤ 4294967292 → (b c d e : Option ℕ) → m a ≡ b → m (a + 1) ≡ c → m (a + 2) ≡ d → m (a + 3) ≡ e → word_of b c d e ≡ Some v → FourBytes m a v

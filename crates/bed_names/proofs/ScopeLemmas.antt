@@ -1,27 +1,23 @@
 -- The sort of a variable among the parts of a scope.
 use Rattle.std.proofs.Common.{◌≡◌, ◌∙◌, sym, ap, refl, Bool, true, false, List, [], ◌∷◌, ◌++◌, Option, None, Some}
 use Rattle.std.specs.Prelude.{if◌then◌else◌, bytes_eq, ◌||◌}
+use Rattle.std.specs.Option.{option_or}
 use Rattle.bed_lang.specs.declared.word.Name.{Name}
 use Rattle.bed_lang.specs.declared.word.Sort.{Sort}
 use Rattle.bed_lang.specs.declared.word.Sort.TheVariants as sort
 use Rattle.bed_lang.specs.declared.logic.Bind.{Bind}
 use Rattle.bed_names.specs.Declarations.{is_among, sort_of, words, sequences}
 
--- the first of two sorts that is there
-abbrev pub or_else : Option Sort → Option Sort → Option Sort
-or_else None b = b
-or_else (Some s) b = Some s
+option_or-if : (t : Bool) (s : Sort) (a b : Option Sort)
+    → (if t then Some s else option_or a b) ≡ option_or (if t then Some s else a) b
+option_or-if true s a b = refl
+option_or-if false s a b = refl
 
-or_else_if : (t : Bool) (s : Sort) (a b : Option Sort)
-    → (if t then Some s else or_else a b) ≡ or_else (if t then Some s else a) b
-or_else_if true s a b = refl
-or_else_if false s a b = refl
-
-pub sort_of_append : (xs ys : List Bind) (x : Name) → sort_of (xs ++ ys) x ≡ or_else (sort_of xs x) (sort_of ys x)
+pub sort_of_append : (xs ys : List Bind) (x : Name) → sort_of (xs ++ ys) x ≡ option_or (sort_of xs x) (sort_of ys x)
 sort_of_append [] ys x = refl
 sort_of_append (b ∷ xs) ys x =
     ap (λ o. if bytes_eq x.bytes b.name.bytes then Some b.sort else o) (sort_of_append xs ys x)
-    ∙ or_else_if (bytes_eq x.bytes b.name.bytes) b.sort (sort_of xs x) (sort_of ys x)
+    ∙ option_or-if (bytes_eq x.bytes b.name.bytes) b.sort (sort_of xs x) (sort_of ys x)
 
 sort_if : (t u : Bool) (s : Sort)
     → (if t then Some s else (if u then Some s else None)) ≡ (if t || u then Some s else None)
@@ -47,25 +43,25 @@ module _ (params : List Name) (logical : List Bind) (locals : List Name) (x : Na
   abbrev if_word : Bool → Option Sort
   if_word b = if b then Some sort.Word else None
 
-  outer_parts : sort_of outside x ≡ or_else (if_word (is_among params x)) (or_else (sort_of logical x) (if_word (is_among locals x)))
+  outer_parts : sort_of outside x ≡ option_or (if_word (is_among params x)) (option_or (sort_of logical x) (if_word (is_among locals x)))
   outer_parts =
       sort_of_append (words params) _ x
-      ∙ (ap (λ a. or_else a (sort_of (logical ++ words locals) x)) (sort_of_words params x)
-      ∙ ap (or_else (if_word (is_among params x))) (sort_of_append logical _ x
-      ∙ ap (or_else (sort_of logical x)) (sort_of_words locals x)))
+      ∙ (ap (λ a. option_or a (sort_of (logical ++ words locals) x)) (sort_of_words params x)
+      ∙ ap (option_or (if_word (is_among params x))) (sort_of_append logical _ x
+      ∙ ap (option_or (sort_of logical x)) (sort_of_words locals x)))
 
   pub in_params : is_among params x ≡ true → Some sort.Word ≡ sort_of outside x
-  in_params p = sym (outer_parts ∙ ap (λ p. or_else (if_word p) (or_else (sort_of logical x) (if_word (is_among locals x)))) p)
+  in_params p = sym (outer_parts ∙ ap (λ p. option_or (if_word p) (option_or (sort_of logical x) (if_word (is_among locals x)))) p)
 
-  behind_params : is_among params x ≡ false → sort_of outside x ≡ or_else (sort_of logical x) (if_word (is_among locals x))
-  behind_params p = outer_parts ∙ ap (λ p. or_else (if_word p) (or_else (sort_of logical x) (if_word (is_among locals x)))) p
+  behind_params : is_among params x ≡ false → sort_of outside x ≡ option_or (sort_of logical x) (if_word (is_among locals x))
+  behind_params p = outer_parts ∙ ap (λ p. option_or (if_word p) (option_or (sort_of logical x) (if_word (is_among locals x)))) p
 
   pub in_logical : (s : Sort) → is_among params x ≡ false → sort_of logical x ≡ Some s → Some s ≡ sort_of outside x
-  in_logical s p a = sym (behind_params p ∙ ap (λ a. or_else a (if_word (is_among locals x))) a)
+  in_logical s p a = sym (behind_params p ∙ ap (λ a. option_or a (if_word (is_among locals x))) a)
 
   pub in_locals : (b : Bool) → is_among params x ≡ false → sort_of logical x ≡ None → is_among locals x ≡ b
       → if_word b ≡ sort_of outside x
-  in_locals b p a l = sym (behind_params p ∙ ap (λ a. or_else a (if_word (is_among locals x))) a ∙ ap if_word l)
+  in_locals b p a l = sym (behind_params p ∙ ap (λ a. option_or a (if_word (is_among locals x))) a ∙ ap if_word l)
 
 module _ (names : List Bind) (lists : List Name) (binders : List Bind) (x : Name) where
   abbrev inside : List Bind
@@ -74,24 +70,24 @@ module _ (names : List Bind) (lists : List Name) (binders : List Bind) (x : Name
   abbrev if_seq : Bool → Option Sort
   if_seq b = if b then Some sort.Seq else None
 
-  inner_parts : sort_of inside x ≡ or_else (or_else (sort_of names x) (if_seq (is_among lists x))) (sort_of binders x)
+  inner_parts : sort_of inside x ≡ option_or (option_or (sort_of names x) (if_seq (is_among lists x))) (sort_of binders x)
   inner_parts =
       sort_of_append (names ++ sequences lists) binders x
-      ∙ ap (λ a. or_else a (sort_of binders x)) (sort_of_append names (sequences lists) x
-      ∙ ap (or_else (sort_of names x)) (sort_of_sequences lists x))
+      ∙ ap (λ a. option_or a (sort_of binders x)) (sort_of_append names (sequences lists) x
+      ∙ ap (option_or (sort_of names x)) (sort_of_sequences lists x))
 
   pub in_names : (s : Sort) → sort_of names x ≡ Some s → Some s ≡ sort_of inside x
-  in_names s a = sym (inner_parts ∙ ap (λ a. or_else (or_else a (if_seq (is_among lists x))) (sort_of binders x)) a)
+  in_names s a = sym (inner_parts ∙ ap (λ a. option_or (option_or a (if_seq (is_among lists x))) (sort_of binders x)) a)
 
   pub in_lists : sort_of names x ≡ None → is_among lists x ≡ true → Some sort.Seq ≡ sort_of inside x
   in_lists a q =
-      sym (inner_parts ∙ ap (λ a. or_else (or_else a (if_seq (is_among lists x))) (sort_of binders x)) a
-      ∙ ap (λ q. or_else (if_seq q) (sort_of binders x)) q)
+      sym (inner_parts ∙ ap (λ a. option_or (option_or a (if_seq (is_among lists x))) (sort_of binders x)) a
+      ∙ ap (λ q. option_or (if_seq q) (sort_of binders x)) q)
 
   pub in_binders : sort_of names x ≡ None → is_among lists x ≡ false → sort_of binders x ≡ sort_of inside x
   in_binders a q =
-      sym (inner_parts ∙ ap (λ a. or_else (or_else a (if_seq (is_among lists x))) (sort_of binders x)) a
-      ∙ ap (λ q. or_else (if_seq q) (sort_of binders x)) q)
+      sym (inner_parts ∙ ap (λ a. option_or (option_or a (if_seq (is_among lists x))) (sort_of binders x)) a
+      ∙ ap (λ q. option_or (if_seq q) (sort_of binders x)) q)
 
 or_assoc : (t a b : Bool) → (t || (a || b)) ≡ ((t || a) || b)
 or_assoc true a b = refl

@@ -8,6 +8,7 @@ use Rattle.std.specs.Str.{bytes_eq}
 use Rattle.std.specs.Map.{lookup}
 use Rattle.indexmap.specs.IndexMap.{insert_entry}
 use Rattle.std.specs.declared.alloc.Global.{Global}
+use Rattle.std.specs.Option.{option_or}
 use Rattle.bed_lang.specs.declared.word.Name.{Name}
 use Rattle.bed_names.specs.declared.error.NameError.{NameError}
 use Rattle.bed_names.specs.declared.error.NameError.TheVariants.{Twice}
@@ -41,45 +42,40 @@ insert_new key value (e ∷ es) new = insert_step (bytes_eq key.items e.0.items)
 pub insert_named : (key : Vec ℕ Global) (name : List ℕ) (value : ℕ) (es : List (Vec ℕ Global × ℕ)) → key.items ≡ name → true ≡ is_none (found (by_bytes es) name) → by_bytes (insert_entry (λ x y. bytes_eq x.items y.items) es key value) ≡ by_bytes es ++ (name, value) ∷ []
 insert_named key name value es e new = subst (λ n. true ≡ is_none (found (by_bytes es) n) → by_bytes (insert_entry (λ x y. bytes_eq x.items y.items) es key value) ≡ by_bytes es ++ (n, value) ∷ []) e (insert_new key value es) new
 
--- the first of two numbers that is there
-abbrev pub or_else : Option ℕ → Option ℕ → Option ℕ
-or_else None b = b
-or_else (Some n) b = Some n
-
 abbrev some_if : Bool → ℕ → Option ℕ
 some_if b n = cond b (Some n) None
 
 shifted : (first : Bool) (p : Option ℕ) (b : Bool) (n : ℕ)
-    → cond first (Some 0) (option_map (λ k. k + 1) (or_else p (some_if b n)))
-    ≡ or_else (cond first (Some 0) (option_map (λ k. k + 1) p)) (some_if b (suc n))
+    → cond first (Some 0) (option_map (λ k. k + 1) (option_or p (some_if b n)))
+    ≡ option_or (cond first (Some 0) (option_map (λ k. k + 1) p)) (some_if b (suc n))
 shifted true p b n = refl
 shifted false (Some k) b n = refl
 shifted false None true n = rw add-one refl
 shifted false None false n = refl
 
 position_push : (xs : List Name) (x : Name) (name : List ℕ)
-    → position_of (xs ++ x ∷ []) name ≡ or_else (position_of xs name) (some_if (bytes_eq name x.bytes) (length xs))
+    → position_of (xs ++ x ∷ []) name ≡ option_or (position_of xs name) (some_if (bytes_eq name x.bytes) (length xs))
 position_push [] x name = refl
 position_push (y ∷ xs) x name =
     ap (λ p. cond (bytes_eq name y.bytes) (Some 0) (option_map (λ k. k + 1) p)) (position_push xs x name)
     ∙ shifted (bytes_eq name y.bytes) (position_of xs name) (bytes_eq name x.bytes) (length xs)
 
-or_else_if : (b : Bool) (n : ℕ) (p q : Option ℕ) → cond b (Some n) (or_else p q) ≡ or_else (cond b (Some n) p) q
-or_else_if true n p q = refl
-or_else_if false n p q = refl
+option_or-if : (b : Bool) (n : ℕ) (p q : Option ℕ) → cond b (Some n) (option_or p q) ≡ option_or (cond b (Some n) p) q
+option_or-if true n p q = refl
+option_or-if false n p q = refl
 
 found_push : (t : List (List ℕ × ℕ)) (x : List ℕ) (n : ℕ) (name : List ℕ)
-    → found (t ++ (x, n) ∷ []) name ≡ or_else (found t name) (some_if (bytes_eq name x) n)
+    → found (t ++ (x, n) ∷ []) name ≡ option_or (found t name) (some_if (bytes_eq name x) n)
 found_push [] x n name = refl
 found_push (e ∷ t) x n name =
     ap (cond (bytes_eq name e.0) (Some e.1)) (found_push t x n name)
-    ∙ or_else_if (bytes_eq name e.0) e.1 (found t name) (some_if (bytes_eq name x) n)
+    ∙ option_or-if (bytes_eq name e.0) e.1 (found t name) (some_if (bytes_eq name x) n)
 
 -- a name that is there already adds nothing
-or_else_known : (b : Bool) (n : ℕ) (p : Option ℕ) → (b ≡ true → is_none p ≡ false) → p ≡ or_else p (some_if b n)
-or_else_known b n (Some k) known = refl
-or_else_known true n None known = cc (known refl)
-or_else_known false n None known = refl
+option_or-known : (b : Bool) (n : ℕ) (p : Option ℕ) → (b ≡ true → is_none p ≡ false) → p ≡ option_or p (some_if b n)
+option_or-known b n (Some k) known = refl
+option_or-known true n None known = cc (known refl)
+option_or-known false n None known = refl
 
 pub index_step : (table next : List (List ℕ × ℕ)) (names : List Name) (i : ℕ) (x : Name) (new : Bool)
     → IsIndex table (take i names) → i < length names → x ≡ get_or names i x → new ≡ is_none (found table x.bytes)
@@ -87,16 +83,16 @@ pub index_step : (table next : List (List ℕ × ℕ)) (names : List Name) (i : 
 index_step table next names i x true is lt e known added same =
     λ name.
     ap (λ t. found t name) added ∙ found_push table x.bytes i name
-    ∙ ap (λ p. or_else p (some_if (bytes_eq name x.bytes) i)) (is name)
-    ∙ ap (λ n. or_else (position_of (take i names) name) (some_if (bytes_eq name x.bytes) n)) (sym (length-take-le i names (omega arith)))
+    ∙ ap (λ p. option_or p (some_if (bytes_eq name x.bytes) i)) (is name)
+    ∙ ap (λ n. option_or (position_of (take i names) name) (some_if (bytes_eq name x.bytes) n)) (sym (length-take-le i names (omega arith)))
     ∙ sym (position_push (take i names) x name)
     ∙ ap (λ xs. position_of xs name) (sym (take_more names i x lt ∙ ap (λ y. take i names ++ y ∷ []) (sym e)))
 index_step table next names i x false is lt e known added same =
     λ name.
     ap (λ t. found t name) same
-    ∙ or_else_known (bytes_eq name x.bytes) (length (take i names)) (found table name)
+    ∙ option_or-known (bytes_eq name x.bytes) (length (take i names)) (found table name)
     (λ b. ap (λ n. is_none (found table n)) ((bytes_eq-Decides name x.bytes).0 b) ∙ sym known)
-    ∙ ap (λ p. or_else p (some_if (bytes_eq name x.bytes) (length (take i names)))) (is name)
+    ∙ ap (λ p. option_or p (some_if (bytes_eq name x.bytes) (length (take i names)))) (is name)
     ∙ sym (position_push (take i names) x name)
     ∙ ap (λ xs. position_of xs name) (sym (take_more names i x lt ∙ ap (λ y. take i names ++ y ∷ []) (sym e)))
 

@@ -1,5 +1,6 @@
 -- The written grammar of modules and the factored one have the same texts, with the same trees.
 use Rattle.std.proofs.Common.{◌≡◌, ℕ, ◌-◌, Bool, true, false, List, [], ◌++◌, Option, None, refl, sym, ◌∙◌, ap, subst, append_assoc, append-nil, inl, inr, arith}
+use Rattle.std.specs.Option.{option_or}
 use Rattle.bed_grammar.specs.Grammar.{token, seq, ref, Value, Marked, Derives, Spells}
 use Rattle.bed_grammar.proofs.Derivations as derivations
 use Rattle.bed_lang.specs.declared.word.Word as word
@@ -15,7 +16,7 @@ use Rattle.bed_read.specs.declared.parts.Piece.TheVariants as piece
 use Rattle.bed_lang.specs.declared.logic.Pure.TheVariants as pure
 use Rattle.bed_read.specs.Classes.{LEFT_PAREN, RIGHT_PAREN, SAME}
 use Rattle.bed_read.specs.Trees.{word_of, summed, fact_of, cell_at}
-use Rattle.bed_read.specs.Written.{N, Tree, written_rule, written_action, written, past, or_mark, sign, NameTerm, StartTerm, Start, Other, Inner, Part, Sum, Sums, Word, Term, Pure, Tail, Arrow, Seq, Arg, Source}
+use Rattle.bed_read.specs.Written.{N, Tree, written_rule, written_action, written, past, sign, NameTerm, StartTerm, Start, Other, Inner, Part, Sum, Sums, Word, Term, Pure, Tail, Arrow, Seq, Arg, Source}
 use Rattle.bed_read.specs.Factored.{rule, action, factored}
 
 abbrev Text : Type 0
@@ -192,7 +193,7 @@ other : (m : Option Which) (n : ℕ) (p : Text) (v : Value Token Tree (written_r
 other m n p v s = derivations.reduction written (Other m n) p (written_action (Part m n) v) (derivations.reduction written (Part m n) p v s)
 
 brackets : (m : Option Which) (n : ℕ) (p p1 p2 p3 p4 : Text) (a : Token) (w : word.Word) (b : Token) (x : Value Token Tree (written_rule (Inner (n - 1)))) → p ≡ p1 ++ p2
-    → Spells written W (token LEFT_PAREN (or_mark m (past limit.Nesting n))) p1 a → p2 ≡ p3 ++ p4 → w ≡ written_action (Inner (n - 1)) x → Spells written W (written_rule (Inner (n - 1))) p3 x → Spells written W (sign RIGHT_PAREN) p4 b
+    → Spells written W (token LEFT_PAREN (option_or m (past limit.Nesting n))) p1 a → p2 ≡ p3 ++ p4 → w ≡ written_action (Inner (n - 1)) x → Spells written W (written_rule (Inner (n - 1))) p3 x → Spells written W (sign RIGHT_PAREN) p4 b
     → W (Other m n) p (piece.Word a.at w)
 brackets m n p p1 p2 p3 p4 a w b (inl y) e s1 e2 f k s2 =
     let (q1, q2, g1, k1, (q3, q4, g2, k2, k3)) = k in

@@ -2,6 +2,7 @@
 -- written ones, and all others from there.
 use Rattle.std.specs.Prelude.{◌-◌, None}
 use Rattle.std.proofs.Common.{inl, inr}
+use Rattle.std.specs.Option.{option_or}
 use Rattle.bed_grammar.specs.Grammar.{Rhs, token, empty, ref, Value, Grammar}
 use Rattle.bed_lang.specs.declared.word.Word as word
 use Rattle.bed_lang.specs.declared.word.Var.TheVariants as var
@@ -17,7 +18,7 @@ use Rattle.bed_read.specs.declared.parts.Piece.TheVariants as piece
 use Rattle.bed_read.specs.declared.parts.Source.TheVariants as source
 use Rattle.bed_read.specs.Classes.{class, IsLexeme, EMP, LEFT_BRACKET, RIGHT_BRACKET, LEFT_PAREN, RIGHT_PAREN, SAME, STAR, AMPERSAND, OLD, RESULT, BYTE}
 use Rattle.bed_read.specs.Trees.{moved, word_of, summed, word_argument, fact_of, cell_at}
-use Rattle.bed_read.specs.Written.{N, Tree, written_rule, written_action, past, or_mark, ◌▸◌, ◌∥◌, sign, name, number, Term, PureTerm, Block, NameTerm, StartTerm, Nam, Num, Args, Sums, Start, Other, Inner, Arrow, Pure, PlainSeq, Seq, Word, Sum, Tail, CodeFact, Part, Arg, Source, Operand, Op, Place, Call}
+use Rattle.bed_read.specs.Written.{N, Tree, written_rule, written_action, past, ◌▸◌, ◌∥◌, sign, name, number, Term, PureTerm, Block, NameTerm, StartTerm, Nam, Num, Args, Sums, Start, Other, Inner, Arrow, Pure, PlainSeq, Seq, Word, Sum, Tail, CodeFact, Part, Arg, Source, Operand, Op, Place, Call}
 
 abbrev pub rule : N → Rhs N Which
 rule (Term m) = token EMP m
@@ -36,7 +37,7 @@ rule (Start m n) = ref (Num m) ∥ ref (Other m n)
 rule (Other m n) = token AMPERSAND m ▸ name
     ∥ token OLD m ▸ name
     ∥ token RESULT m
-    ∥ token LEFT_PAREN (or_mark m (past limit.Nesting n)) ▸ ref (Inner (n - 1)) ▸ sign RIGHT_PAREN
+    ∥ token LEFT_PAREN (option_or m (past limit.Nesting n)) ▸ ref (Inner (n - 1)) ▸ sign RIGHT_PAREN
 rule (Inner n) = number ▸ (sign STAR ▸ ref (Word n) ∥ ref (Sums 255 n))
     ∥ name ▸ ref (Sums 255 n)
     ∥ ref (Other None n) ▸ ref (Sums 255 n)

@@ -5,6 +5,7 @@
 -- its first token has a mark, and past it the grammar goes on as ever.
 use Rattle.std.specs.Prelude.{ℕ, ◌-◌, nat_eq, if◌then◌else◌, Bool, true, false, List, [], ◌∷◌, Option, Some, None}
 use Rattle.std.proofs.Common.{inl, inr}
+use Rattle.std.specs.Option.{option_or}
 use Rattle.bed_grammar.specs.Grammar.{Rhs, token, empty, seq, alt, ref, Value, Grammar}
 use Rattle.bed_lang.specs.declared.word.Name.{Name}
 use Rattle.bed_lang.specs.declared.word.Sort.TheVariants as sort
@@ -233,11 +234,6 @@ Tree Arrow = Bool × word.Word
 abbrev pub past : Which → ℕ → Option Which
 past which left = if nat_eq left 0 then Some which else None
 
--- the first of two limits, where a token passes both
-abbrev pub or_mark : Option Which → Option Which → Option Which
-or_mark (Some w) m = Some w
-or_mark None m = m
-
 -- one part after the other
 infixr 6 ◌▸◌
 abbrev pub ◌▸◌ : Rhs N Which → Rhs N Which → Rhs N Which
@@ -324,8 +320,8 @@ written_rule (Part m n) = ref (Num m)
     ∥ token AMPERSAND m ▸ name
     ∥ token OLD m ▸ name
     ∥ token RESULT m
-    ∥ token LEFT_PAREN (or_mark m (past limit.Nesting n)) ▸ number ▸ sign STAR ▸ ref (Word (n - 1)) ▸ sign RIGHT_PAREN
-    ∥ token LEFT_PAREN (or_mark m (past limit.Nesting n)) ▸ ref (Word (n - 1)) ▸ sign RIGHT_PAREN
+    ∥ token LEFT_PAREN (option_or m (past limit.Nesting n)) ▸ number ▸ sign STAR ▸ ref (Word (n - 1)) ▸ sign RIGHT_PAREN
+    ∥ token LEFT_PAREN (option_or m (past limit.Nesting n)) ▸ ref (Word (n - 1)) ▸ sign RIGHT_PAREN
 -- seq = name | "nil" | "cons" "(" word "," seq ")" | "app" "(" seq "," seq ")"
 written_rule (Seq n) = name ∥ ref (PlainSeq n)
 written_rule (PlainSeq n) = sign NIL

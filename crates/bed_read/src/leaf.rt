@@ -1,9 +1,10 @@
 //! Names, numbers and limits.
 ghost use Rattle.std.specs.Prelude.{◌≡◌, IfOk, Some, None};
+ghost use Rattle.std.specs.Option.{option_or};
 ghost use Rattle.bed_grammar.specs.Gives.{Gives};
 ghost use Rattle.bed_read.specs.Classes.{class};
 ghost use Rattle.bed_read.specs.Trees.{number_of};
-ghost use Rattle.bed_read.specs.Written.{Nam, Num, past, or_mark};
+ghost use Rattle.bed_read.specs.Written.{Nam, Num, past};
 ghost use Rattle.bed_read.specs.Tables.{read};
 
 use crate::class::{LARGE_NUMBER, NAME, NUMBER};
@@ -21,7 +22,7 @@ pub(crate) fn limit_at(which: Which, left: u32) -> Option<Which>
 
 /// The first of two limits.
 pub(crate) fn either_limit(first: Option<Which>, second: Option<Which>) -> Option<Which>
-    ensures { result ≡ or_mark first second }
+    ensures { result ≡ option_or first second }
 {
     match first {
         Some(which) => Some(which),

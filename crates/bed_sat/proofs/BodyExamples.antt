@@ -2,7 +2,7 @@
 use Rattle.std.proofs.Common.{◌≡◌, ℕ, ◌+◌, Bool, true, false, Option, Some, None, IsSome, option_map, List, [], ◌∷◌, bytes_eq, nat_eq, codes, if◌then◌else◌, All, inl, inr, refl, sym, ◌∙◌, ap, ap₂, subst, subst₂, arith}
 use Rattle.std.proofs.lemmas.List.Elements.{All-cons, All-nil}
 use Rattle.bed_machine.specs.Memory.{Memory, empty, wrap, put_byte, put_word}
-use Rattle.bed_machine.proofs.WordLaws.{four_bytes, put_byte_same, put_byte_gives}
+use Rattle.bed_machine.proofs.WordLaws.{four_bytes, put_byte_same, put_byte_gives, some_same}
 use Rattle.bed_lang.specs.declared.word.Name.{Name}
 use Rattle.bed_lang.specs.declared.word.Var.TheVariants as var
 use Rattle.bed_lang.specs.declared.word.Word.{Word, Number, Var as WordVar}
@@ -36,7 +36,6 @@ use Rattle.bed_sat.specs.BodyExamples.{callee, calling_body, calling_text, is_ei
 use Rattle.bed_sat.proofs.PartLaws.{joins_comm, joins_empty, to_empty, joins_left}
 use Rattle.bed_sat.proofs.RowLaws.{row_cell}
 use Rattle.bed_sat.proofs.CellLaws.{put_cell}
-use Rattle.bed_sat.proofs.FrameLaws.{some_same}
 use Rattle.bed_sat.proofs.ConditionLaws.{written-Load, written-LoadByte, written-Store, written-StoreByte, written-Call, written-Return, part-Load, part-LoadByte, part-Store, part-StoreByte, part-Call, part-Return}
 use Rattle.bed_sat.proofs.ConditionExamples.{one_function}
 use Rattle.bed_sat.proofs.ValidExamples.{emp_is, emp_holds, fact_is, fact_holds}

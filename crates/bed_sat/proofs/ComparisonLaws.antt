@@ -2,6 +2,7 @@
 use Rattle.std.proofs.Common.{◌≡◌, ◌≢◌, ℕ, ◌+◌, ◌-◌, ◌*◌, ◌<◌, ◌≤◌, ◌↔◌, Bool, not, ◌&&◌, nat_eq, nat_lt, nat_le, IsTrue, Option, Some, None, IsSome, is_some, IfSome, List, refl, sym, ◌∙◌, ap, ap₂, subst, arith}
 use Rattle.std.proofs.lemmas.Bool.Decides.{nat_tests}
 use Rattle.bed_machine.specs.Memory.{wrap}
+use Rattle.bed_machine.proofs.WordLaws.{some_same}
 use Rattle.bed_lang.specs.declared.word.Name.{Name}
 use Rattle.bed_lang.specs.declared.word.Var.{Var}
 use Rattle.bed_lang.specs.declared.word.Var.TheVariants as var
@@ -9,10 +10,10 @@ use Rattle.bed_lang.specs.declared.word.Word.{Word, roll-Word, map-Word, ind-Wor
 use Rattle.bed_lang.specs.declared.word.Word.TheOpen.{Word-F}
 use Rattle.bed_lang.specs.declared.logic.Pure.{Pure}
 use Rattle.bed_lang.specs.declared.logic.Pure.TheVariants as pure
-use Rattle.bed_lang.specs.Values.{Values, variable, value, value_step}
+use Rattle.bed_lang.specs.Values.{Values, variable, value}
+use Rattle.bed_lang.proofs.RollLaws.{value_roll}
 use Rattle.bed_sat.specs.Facts.{IsTrueFact}
 use Rattle.bed_sat.specs.Comparisons.{named_value, GivesNamed, is_given, word_over, word_over_step, compares, on_both, on_one, variable_result, word_result, word_result_step, pure_result}
-use Rattle.bed_sat.proofs.FrameLaws.{some_same}
 
 both_some : (o q : Option ℕ) {A : Type 0} (f : ℕ → ℕ → A) → is_some (on_both o q f) ≡ (is_some o && is_some q)
 both_some None q f = refl
@@ -86,9 +87,6 @@ module _ (values : List (Name × ℕ)) where
     abbrev IsValue : Word → Type 0
     IsValue a = (v : ℕ) → word_result values a ≡ Some v → v ≡ value labels ν a
 
-    value_of : (x : Word-F Word) → value labels ν (roll-Word x) ≡ value_step labels ν (map-Word Word ℕ (value labels ν) x)
-    value_of = fold-roll-Word ℕ (value_step labels ν)
-
     variable_value : (x : Var) (v : ℕ) → variable_result values x ≡ Some v → v ≡ wrap (ν.words (variable x))
     variable_value (var.Named x) v e = let p = one_is (named_value values x.bytes) wrap v e in p.2 ∙ ap wrap (sym (g.gives x.bytes p.0 p.1))
     variable_value (var.Old x) v e = none_not v e
@@ -97,18 +95,18 @@ module _ (values : List (Name × ℕ)) where
     variable_value var.Hole v e = none_not v e
 
     value_layer : (y : Word-F ((a : Word) × IsValue a)) → IsValue (roll-Word (map-Word _ _ (λ p. p.0) y))
-    value_layer (Word-F.Number n) v e = some_same (sym e ∙ result_of (Word-F.Number n)) ∙ sym (value_of (Word-F.Number n))
+    value_layer (Word-F.Number n) v e = some_same (sym e ∙ result_of (Word-F.Number n)) ∙ sym (value_roll labels ν (Word-F.Number n))
     value_layer (Word-F.Label f) v e = none_not v (sym (result_of (Word-F.Label f)) ∙ e)
-    value_layer (Word-F.Var x) v e = variable_value x v (sym (result_of (Word-F.Var x)) ∙ e) ∙ sym (value_of (Word-F.Var x))
+    value_layer (Word-F.Var x) v e = variable_value x v (sym (result_of (Word-F.Var x)) ∙ e) ∙ sym (value_roll labels ν (Word-F.Var x))
     value_layer (Word-F.Add a b) v e =
         let p = both_is (word_result values a.0) (word_result values b.0) (λ m n. wrap (m + n)) v (sym (result_of (Word-F.Add a.0 b.0)) ∙ e) in
-        p.4 ∙ ap₂ (λ m n. wrap (m + n)) (a.1 p.0 p.2) (b.1 p.1 p.3) ∙ sym (value_of (Word-F.Add a.0 b.0))
+        p.4 ∙ ap₂ (λ m n. wrap (m + n)) (a.1 p.0 p.2) (b.1 p.1 p.3) ∙ sym (value_roll labels ν (Word-F.Add a.0 b.0))
     value_layer (Word-F.Sub a b) v e =
         let p = both_is (word_result values a.0) (word_result values b.0) (λ m n. wrap (m + (4294967296 - n))) v (sym (result_of (Word-F.Sub a.0 b.0)) ∙ e) in
-        p.4 ∙ ap₂ (λ m n. wrap (m + (4294967296 - n))) (a.1 p.0 p.2) (b.1 p.1 p.3) ∙ sym (value_of (Word-F.Sub a.0 b.0))
+        p.4 ∙ ap₂ (λ m n. wrap (m + (4294967296 - n))) (a.1 p.0 p.2) (b.1 p.1 p.3) ∙ sym (value_roll labels ν (Word-F.Sub a.0 b.0))
     value_layer (Word-F.Times n a) v e =
         let p = one_is (word_result values a.0) (λ m. wrap (n * m)) v (sym (result_of (Word-F.Times n a.0)) ∙ e) in
-        p.2 ∙ ap (λ m. wrap (n * m)) (a.1 p.0 p.1) ∙ sym (value_of (Word-F.Times n a.0))
+        p.2 ∙ ap (λ m. wrap (n * m)) (a.1 p.0 p.1) ∙ sym (value_roll labels ν (Word-F.Times n a.0))
 
     is_value : (a : Word) → IsValue a
     is_value = ind-Word IsValue (λ x y is. subst (λ (z : Word-F Word). IsValue (roll-Word z)) is (value_layer y))

@@ -1,6 +1,7 @@
 -- Frames: the words in them, and names set to words.
-use Rattle.std.proofs.Common.{◌≡◌, ◌≢◌, ℕ, zero, suc, ◌+◌, ◌<◌, ◌⊎◌, Bool, true, false, Option, Some, List, [], ◌∷◌, ◌++◌, length, slice_get, slice_index, unwrap_or, bytes_eq, inl, inr, refl, sym, ◌∙◌, ap, ap₂, arith}
+use Rattle.std.proofs.Common.{◌≡◌, ◌≢◌, ℕ, zero, suc, ◌+◌, ◌<◌, true, false, Some, List, [], ◌∷◌, ◌++◌, length, slice_get, slice_index, unwrap_or, bytes_eq, inl, inr, refl, sym, ◌∙◌, ap, ap₂, arith}
 use Rattle.std.proofs.lemmas.Slice.Eq.{bytes_eq-Decides}
+use Rattle.std.proofs.lemmas.Bool.{cases_Bool}
 use Rattle.bed_machine.specs.Memory.{Memory, wrap, word_at}
 use Rattle.bed_lang.specs.declared.word.Name.{Name}
 use Rattle.bed_lang.specs.Values.{Values, Named, set_word}
@@ -9,7 +10,7 @@ use Rattle.bed_sat.specs.Cells.{AreWordsAt, IsCell}
 use Rattle.bed_sat.specs.Frames.{words_at, set_words}
 use Rattle.bed_sat.specs.Returns.{IsParameter}
 use Rattle.bed_sat.proofs.PartLaws.{joins_left, joins_right, includes_trans}
-use Rattle.bed_machine.proofs.WordLaws.{four_bytes}
+use Rattle.bed_machine.proofs.WordLaws.{four_bytes, some_same}
 use Rattle.bed_sat.proofs.CellLaws.{word_includes}
 
 -- a test of two texts
@@ -19,12 +20,8 @@ bytes_eq_same x = (bytes_eq-Decides x x).1 refl
 pub bytes_eq_is : (x y : List ℕ) → bytes_eq x y ≡ true → x ≡ y
 bytes_eq_is x y e = (bytes_eq-Decides x y).0 e
 
-true_or_false : (t : Bool) → (t ≡ true) ⊎ (t ≡ false)
-true_or_false true = inl refl
-true_or_false false = inr refl
-
 pub bytes_eq_not : (x y : List ℕ) → x ≢ y → bytes_eq x y ≡ false
-bytes_eq_not x y ne = elim (true_or_false (bytes_eq x y)) [ inl e ↦ absurd (ne (bytes_eq_is x y e)) | inr e ↦ e ]
+bytes_eq_not x y ne = elim (cases_Bool (bytes_eq x y)) [ inl e ↦ absurd (ne (bytes_eq_is x y e)) | inr e ↦ e ]
 
 -- the variable that was set, and the others
 pub set_same : (ν : Values) (x : List ℕ) (v : ℕ) → (set_word ν (Named x) v).words (Named x) ≡ v
@@ -40,9 +37,6 @@ set_words_other ν (x ∷ xs) [] name none = refl
 set_words_other ν (x ∷ xs) (v ∷ vs) name none =
     set_words_other (set_word ν (Named x.bytes) v) xs vs name (λ j y at same. none (suc j) y at same)
     ∙ set_other ν x.bytes name v (λ e. none 0 x refl (sym e))
-
-pub some_same : {A : Type 0} {x y : A} → ◌≡◌ {A = Option A} (Some x) (Some y) → x ≡ y
-some_same e = cc
 
 -- a parameter has the argument in its place
 pub parameter_word : (ν : Values) (params : List Name) (args : List ℕ) (name : List ℕ) (i : ℕ) → IsParameter params name i → length args ≡ length params → (set_words ν params args).words (Named name) ≡ slice_index args i

@@ -1,9 +1,9 @@
 -- Terms in place of variables do what setting the variables to their values does.
 use Rattle.std.proofs.Common.{◌≡◌, ◌≢◌, ℕ, ◌+◌, ◌-◌, ◌*◌, ◌<◌, ◌≤◌, ◌↔◌, Option, Some, List, [], ◌∷◌, ◌++◌, map, Contains, refl, sym, ◌∙◌, ap, ap₂, subst, subst₂, arith}
 use Rattle.bed_machine.specs.Memory.{Memory}
-use Rattle.bed_lang.specs.declared.word.Word.{Word, roll-Word, map-Word, ind-Word, fold-roll-Word}
+use Rattle.bed_lang.specs.declared.word.Word.{Word, roll-Word, map-Word, ind-Word}
 use Rattle.bed_lang.specs.declared.word.Word.TheOpen.{Word-F}
-use Rattle.bed_lang.specs.declared.word.Seq.{Seq, roll-Seq, map-Seq, ind-Seq, fold-roll-Seq}
+use Rattle.bed_lang.specs.declared.word.Seq.{Seq, roll-Seq, map-Seq, ind-Seq}
 use Rattle.bed_lang.specs.declared.word.Seq.TheOpen.{Seq-F}
 use Rattle.bed_lang.specs.declared.logic.Arg.{Arg}
 use Rattle.bed_lang.specs.declared.logic.Arg.TheVariants as arg
@@ -13,12 +13,13 @@ use Rattle.bed_lang.specs.declared.logic.Atom.{Atom}
 use Rattle.bed_lang.specs.declared.logic.Atom.TheVariants as atom
 use Rattle.bed_lang.specs.declared.logic.Term.{Term}
 use Rattle.bed_lang.specs.declared.logic.Term.TheVariants as term
-use Rattle.bed_lang.specs.Values.{wrap, Values, variable, value, value_step, list_value, list_value_step}
+use Rattle.bed_lang.specs.Values.{wrap, Values, variable, value, list_value}
 use Rattle.bed_lang.proofs.ValueLaws.{value-Number, value-Label, value-Add, value-Sub, value-Times, value-small, list_value-Nil, list_value-Cons, list_value-App}
 use Rattle.bed_sat.specs.Cells.{IsCell, IsByte, IsBlock}
 use Rattle.bed_sat.specs.Facts.{IsTrueFact}
 use Rattle.bed_sat.specs.Assertions.{WordValue, ListValue, Meaning, arg_value, arg_values, IsTrueAtom, IsTrueTerm, AreTrueTerms}
-use Rattle.bed_lang.specs.Instances.{Instance, values_with, word_with, word_with_step, seq_with, seq_with_step, arg_with, args_with, pure_with, atom_with, term_with, terms_with}
+use Rattle.bed_lang.specs.Instances.{Instance, values_with, word_with, seq_with, arg_with, args_with, pure_with, atom_with, term_with, terms_with}
+use Rattle.bed_lang.proofs.RollLaws.{value_roll, list_roll, word_with-roll, seq_with-roll}
 
 -- items that are taken modulo 2^32 again stay
 pub wrap_twice : (xs : List ℕ) → map wrap (map wrap xs) ≡ map wrap xs
@@ -29,18 +30,12 @@ wrap_append : (xs ys : List ℕ) → map wrap (xs ++ ys) ≡ map wrap xs ++ map 
 wrap_append [] ys = refl
 wrap_append (x ∷ xs) ys = ap (λ l. wrap x ∷ l) (wrap_append xs ys)
 
-two : {A B : Type 0} (R : A → B → Type 0) {a c : A} {b d : B} → a ≡ c → b ≡ d → R a b ↔ R c d
+pub two : {A B : Type 0} (R : A → B → Type 0) {a c : A} {b d : B} → a ≡ c → b ≡ d → R a b ↔ R c d
 two R p q = (subst₂ R p q, subst₂ R (sym p) (sym q))
 
 module _ (codes : ℕ → Option (List ℕ)) (labels : List ℕ → ℕ) (σ : Instance) (ν : Values) where
   abbrev μ : Values
   μ = values_with σ labels ν
-
-  word_of : (κ : Values) (x : Word-F Word) → value labels κ (roll-Word x) ≡ value_step labels κ (map-Word Word ℕ (value labels κ) x)
-  word_of κ = fold-roll-Word ℕ (value_step labels κ)
-
-  with_of : (x : Word-F Word) → word_with σ (roll-Word x) ≡ word_with_step σ (map-Word Word Word (word_with σ) x)
-  with_of = fold-roll-Word Word (word_with_step σ)
 
   wrap_value : (a : Word) → value labels ν a ≡ wrap (value labels ν a)
   wrap_value a = let l = value-small labels ν a in omega (arith, l)
@@ -49,38 +44,32 @@ module _ (codes : ℕ → Option (List ℕ)) (labels : List ℕ → ℕ) (σ : I
   Agrees a = value labels ν (word_with σ a) ≡ value labels μ a
 
   word_layer : (y : Word-F ((a : Word) × Agrees a)) → Agrees (roll-Word (map-Word _ _ (λ p. p.0) y))
-  word_layer (Word-F.Number n) = ap (value labels ν) (with_of (Word-F.Number n)) ∙ value-Number labels ν n ∙ sym (word_of μ (Word-F.Number n))
-  word_layer (Word-F.Label f) = ap (value labels ν) (with_of (Word-F.Label f)) ∙ value-Label labels ν f ∙ sym (word_of μ (Word-F.Label f))
-  word_layer (Word-F.Var x) = ap (value labels ν) (with_of (Word-F.Var x)) ∙ wrap_value (σ.words (variable x)) ∙ sym (word_of μ (Word-F.Var x))
+  word_layer (Word-F.Number n) = ap (value labels ν) (word_with-roll σ (Word-F.Number n)) ∙ value-Number labels ν n ∙ sym (value_roll labels μ (Word-F.Number n))
+  word_layer (Word-F.Label f) = ap (value labels ν) (word_with-roll σ (Word-F.Label f)) ∙ value-Label labels ν f ∙ sym (value_roll labels μ (Word-F.Label f))
+  word_layer (Word-F.Var x) = ap (value labels ν) (word_with-roll σ (Word-F.Var x)) ∙ wrap_value (σ.words (variable x)) ∙ sym (value_roll labels μ (Word-F.Var x))
   word_layer (Word-F.Add a b) =
-      ap (value labels ν) (with_of (Word-F.Add a.0 b.0)) ∙ value-Add labels ν (word_with σ a.0) (word_with σ b.0)
-      ∙ ap₂ (λ m n. wrap (m + n)) a.1 b.1 ∙ sym (word_of μ (Word-F.Add a.0 b.0))
+      ap (value labels ν) (word_with-roll σ (Word-F.Add a.0 b.0)) ∙ value-Add labels ν (word_with σ a.0) (word_with σ b.0)
+      ∙ ap₂ (λ m n. wrap (m + n)) a.1 b.1 ∙ sym (value_roll labels μ (Word-F.Add a.0 b.0))
   word_layer (Word-F.Sub a b) =
-      ap (value labels ν) (with_of (Word-F.Sub a.0 b.0)) ∙ value-Sub labels ν (word_with σ a.0) (word_with σ b.0)
-      ∙ ap₂ (λ m n. wrap (m + (4294967296 - n))) a.1 b.1 ∙ sym (word_of μ (Word-F.Sub a.0 b.0))
+      ap (value labels ν) (word_with-roll σ (Word-F.Sub a.0 b.0)) ∙ value-Sub labels ν (word_with σ a.0) (word_with σ b.0)
+      ∙ ap₂ (λ m n. wrap (m + (4294967296 - n))) a.1 b.1 ∙ sym (value_roll labels μ (Word-F.Sub a.0 b.0))
   word_layer (Word-F.Times n a) =
-      ap (value labels ν) (with_of (Word-F.Times n a.0)) ∙ value-Times labels ν n (word_with σ a.0)
-      ∙ ap (λ m. wrap (n * m)) a.1 ∙ sym (word_of μ (Word-F.Times n a.0))
+      ap (value labels ν) (word_with-roll σ (Word-F.Times n a.0)) ∙ value-Times labels ν n (word_with σ a.0)
+      ∙ ap (λ m. wrap (n * m)) a.1 ∙ sym (value_roll labels μ (Word-F.Times n a.0))
 
   pub value-with : (a : Word) → value labels ν (word_with σ a) ≡ value labels μ a
   value-with = ind-Word Agrees (λ x y is. subst (λ (z : Word-F Word). Agrees (roll-Word z)) is (word_layer y))
-
-  list_of : (κ : Values) (x : Seq-F Seq) → list_value labels κ (roll-Seq x) ≡ list_value_step labels κ (map-Seq Seq (List ℕ) (list_value labels κ) x)
-  list_of κ = fold-roll-Seq (List ℕ) (list_value_step labels κ)
-
-  seq_with_of : (x : Seq-F Seq) → seq_with σ (roll-Seq x) ≡ seq_with_step σ (map-Seq Seq Seq (seq_with σ) x)
-  seq_with_of = fold-roll-Seq Seq (seq_with_step σ)
 
   -- the elements of a sequence's value are words
   abbrev AreSmall : Seq → Type 0
   AreSmall s = list_value labels ν s ≡ map wrap (list_value labels ν s)
 
   small_layer : (y : Seq-F ((s : Seq) × AreSmall s)) → AreSmall (roll-Seq (map-Seq _ _ (λ p. p.0) y))
-  small_layer (Seq-F.Var x) = let e = list_of ν (Seq-F.Var x) in e ∙ sym (wrap_twice (ν.lists (variable x))) ∙ ap (map wrap) (sym e)
-  small_layer Seq-F.Nil = let e = list_of ν Seq-F.Nil in e ∙ ap (map wrap) (sym e)
-  small_layer (Seq-F.Cons a s) = let e = list_of ν (Seq-F.Cons a s.0) in e ∙ ap₂ (λ v vs. v ∷ vs) (wrap_value a) s.1 ∙ ap (map wrap) (sym e)
+  small_layer (Seq-F.Var x) = let e = list_roll labels ν (Seq-F.Var x) in e ∙ sym (wrap_twice (ν.lists (variable x))) ∙ ap (map wrap) (sym e)
+  small_layer Seq-F.Nil = let e = list_roll labels ν Seq-F.Nil in e ∙ ap (map wrap) (sym e)
+  small_layer (Seq-F.Cons a s) = let e = list_roll labels ν (Seq-F.Cons a s.0) in e ∙ ap₂ (λ v vs. v ∷ vs) (wrap_value a) s.1 ∙ ap (map wrap) (sym e)
   small_layer (Seq-F.App s t) =
-      let e = list_of ν (Seq-F.App s.0 t.0) in
+      let e = list_roll labels ν (Seq-F.App s.0 t.0) in
       e ∙ ap₂ (λ u v. u ++ v) s.1 t.1 ∙ sym (wrap_append (list_value labels ν s.0) (list_value labels ν t.0)) ∙ ap (map wrap) (sym e)
 
   small : (s : Seq) → AreSmall s
@@ -90,14 +79,14 @@ module _ (codes : ℕ → Option (List ℕ)) (labels : List ℕ → ℕ) (σ : I
   ListAgrees s = list_value labels ν (seq_with σ s) ≡ list_value labels μ s
 
   seq_layer : (y : Seq-F ((s : Seq) × ListAgrees s)) → ListAgrees (roll-Seq (map-Seq _ _ (λ p. p.0) y))
-  seq_layer (Seq-F.Var x) = ap (list_value labels ν) (seq_with_of (Seq-F.Var x)) ∙ small (σ.seqs (variable x)) ∙ sym (list_of μ (Seq-F.Var x))
-  seq_layer Seq-F.Nil = ap (list_value labels ν) (seq_with_of Seq-F.Nil) ∙ list_value-Nil labels ν ∙ sym (list_of μ Seq-F.Nil)
+  seq_layer (Seq-F.Var x) = ap (list_value labels ν) (seq_with-roll σ (Seq-F.Var x)) ∙ small (σ.seqs (variable x)) ∙ sym (list_roll labels μ (Seq-F.Var x))
+  seq_layer Seq-F.Nil = ap (list_value labels ν) (seq_with-roll σ Seq-F.Nil) ∙ list_value-Nil labels ν ∙ sym (list_roll labels μ Seq-F.Nil)
   seq_layer (Seq-F.Cons a s) =
-      ap (list_value labels ν) (seq_with_of (Seq-F.Cons a s.0)) ∙ list_value-Cons labels ν (word_with σ a) (seq_with σ s.0)
-      ∙ ap₂ (λ v vs. v ∷ vs) (value-with a) s.1 ∙ sym (list_of μ (Seq-F.Cons a s.0))
+      ap (list_value labels ν) (seq_with-roll σ (Seq-F.Cons a s.0)) ∙ list_value-Cons labels ν (word_with σ a) (seq_with σ s.0)
+      ∙ ap₂ (λ v vs. v ∷ vs) (value-with a) s.1 ∙ sym (list_roll labels μ (Seq-F.Cons a s.0))
   seq_layer (Seq-F.App s t) =
-      ap (list_value labels ν) (seq_with_of (Seq-F.App s.0 t.0)) ∙ list_value-App labels ν (seq_with σ s.0) (seq_with σ t.0)
-      ∙ ap₂ (λ u v. u ++ v) s.1 t.1 ∙ sym (list_of μ (Seq-F.App s.0 t.0))
+      ap (list_value labels ν) (seq_with-roll σ (Seq-F.App s.0 t.0)) ∙ list_value-App labels ν (seq_with σ s.0) (seq_with σ t.0)
+      ∙ ap₂ (λ u v. u ++ v) s.1 t.1 ∙ sym (list_roll labels μ (Seq-F.App s.0 t.0))
 
   pub list_value-with : (s : Seq) → list_value labels ν (seq_with σ s) ≡ list_value labels μ s
   list_value-with = ind-Seq ListAgrees (λ x y is. subst (λ (z : Seq-F Seq). ListAgrees (roll-Seq z)) is (seq_layer y))

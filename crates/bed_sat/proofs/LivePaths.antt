@@ -1,6 +1,7 @@
 -- A path goes on after statements that fall through, where no statement follows one that can't.
-use Rattle.std.proofs.Common.{◌≡◌, ◌⊎◌, ℕ, Bool, true, false, ◌&&◌, ◌||◌, Option, Some, None, IsSome, option_map, option_and_then, List, [], ◌∷◌, map, inl, inr, refl, sym, ◌∙◌, ap, ap₂, subst}
+use Rattle.std.proofs.Common.{◌≡◌, ℕ, Bool, true, false, ◌&&◌, ◌||◌, Option, Some, None, IsSome, option_map, option_and_then, List, [], ◌∷◌, map, inl, inr, refl, sym, ◌∙◌, ap, ap₂, subst}
 use Rattle.std.specs.Option.{option_or}
+use Rattle.std.proofs.lemmas.Bool.{and_parts, or_cases}
 use Rattle.bed_lang.specs.declared.word.Name.{Name}
 use Rattle.bed_lang.specs.declared.logic.Assertion.{Assertion}
 use Rattle.bed_lang.specs.declared.module.Operand.{Operand}
@@ -16,14 +17,6 @@ use Rattle.bed_sat.specs.Written.{statement}
 use Rattle.bed_sat.specs.Conditions.{Site, Path, Part, in_order, part_step, choice, where_true, where_false, kind_part_step, kind_part, statement_part, body_part}
 use Rattle.bed_sat.specs.ConditionLaws.{Flow, flow_after, flow_in_order, kind_flow_step, flow_step, kind_flow, statement_flow, is_live, PathsGoOn}
 use Rattle.bed_sat.specs.BodyExamples.{LiveBodiesExample}
-
-and_true : (a b : Bool) → (a && b) ≡ true → (a ≡ true) × (b ≡ true)
-and_true true b e = (refl, e)
-and_true false b e = absurd (cc)
-
-or_true : (a b : Bool) → (a || b) ≡ true → (a ≡ true) ⊎ (b ≡ true)
-or_true true b e = inl refl
-or_true false b e = inr e
 
 none_is_some : IsSome {T = Path} None → ⊥
 none_is_some some = let no : ◌≡◌ {A = Bool} false true = some in cc
@@ -57,8 +50,8 @@ module _ (site : Site) where
   either_goes : (t : Test) (ys ns : Flow) (yp np : Part) → GoesOn ys yp → GoesOn ns np → (ys.live && ns.live) ≡ true → (ys.falls || ns.falls) ≡ true
       → (p : Path) → IsSome (option_or (yp.goes_on (where_true t p)) (np.goes_on (where_false t p)))
   either_goes t ys ns yp np hy hn live falls p =
-      let l = and_true ys.live ns.live live in
-      elim (or_true ys.falls ns.falls falls) [
+      let l = and_parts ys.live ns.live live in
+      elim (or_cases ys.falls ns.falls falls) [
         | inl e ↦ first_some _ _ (hy l.0 e (where_true t p))
         | inr e ↦ second_some _ _ (hn l.1 e (where_false t p))
       ]
@@ -77,9 +70,9 @@ module _ (site : Site) where
       → IsSome (option_and_then (in_order (map (statement_part site) (bare ss))).goes_on q)
   list_goes [] falls None h live e = h e
   list_goes [] falls (Some p) h live e = refl
-  list_goes (s ∷ ss) falls None h live e = absurd (none_is_some (h (and_true falls _ live).0))
+  list_goes (s ∷ ss) falls None h live e = absurd (none_is_some (h (and_parts falls _ live).0))
   list_goes (s ∷ ss) falls (Some p) h live e =
-      let l = and_true (statement_flow s.0).live _ (and_true falls _ live).1 in
+      let l = and_parts (statement_flow s.0).live _ (and_parts falls _ live).1 in
       list_goes ss (statement_flow s.0).falls ((statement_part site s.0).goes_on p) (λ i. s.1.1 l.0 i p) l.1 e
 
   list_falls : (ss : List ((s : Stmt) × StatementGoes s)) (a b : Bool) → a ≡ b

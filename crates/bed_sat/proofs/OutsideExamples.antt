@@ -7,6 +7,7 @@ use Rattle.bed_machine.specs.Instructions.{row}
 use Rattle.bed_machine.specs.MachineCode.{IsInCode}
 use Rattle.bed_machine.specs.Machine.{MachineState, Outside as NotInCode, NoInstruction, Makes}
 use Rattle.bed_machine.proofs.StepLaws.{Goes, goes_inside, goes_step}
+use Rattle.bed_machine.proofs.WordLaws.{some_same}
 use Rattle.bed_lang.specs.declared.module.Signature.{Signature}
 use Rattle.bed_lang.specs.Prelude.{name}
 use Rattle.bed_lang.specs.Values.{Values, Answer, set_word}
@@ -22,7 +23,7 @@ use Rattle.bed_sat.specs.SoundExamples.{n_is, never, taking, imported, taking_fi
 use Rattle.bed_sat.proofs.PartLaws.{joins_comm, joins_empty, to_empty, joins_left, joins_right, includes_trans, includes_refl, split_part, join_parts}
 use Rattle.bed_sat.proofs.RowLaws.{joins_rows, row_cell}
 use Rattle.bed_sat.proofs.BlockLaws.{append_words}
-use Rattle.bed_sat.proofs.FrameLaws.{some_same, read_words}
+use Rattle.bed_sat.proofs.FrameLaws.{read_words}
 use Rattle.bed_sat.proofs.RunLaws.{FineFor, fine_run, fine_goes, fine_then}
 use Rattle.bed_sat.proofs.ValidExamples.{emp_is}
 use Rattle.bed_sat.proofs.SoundExamples.{only, no_name, zero_bytes, starts, is_outside, never_met}

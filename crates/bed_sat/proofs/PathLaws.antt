@@ -1,6 +1,7 @@
 -- Where paths end, negations of tests, the condition of one `return`, and the words of operands.
 use Rattle.std.proofs.Common.{◌≡◌, ◌≢◌, ◌↔◌, ◌<◌, ◌≤◌, arith, nat_eq, ℕ, Bool, true, false, ◌||◌, Option, Some, None, option_and_then, List, [], ◌∷◌, ◌++◌, map, refl, sym, ◌∙◌, ap, subst}
 use Rattle.std.proofs.lemmas.Bool.Decides.{nat_tests}
+use Rattle.std.proofs.lemmas.Bool.{or_parts}
 use Rattle.bed_lang.specs.declared.module.Operand.{Operand}
 use Rattle.bed_lang.specs.declared.module.Operand.TheVariants.{Number, Local, Label}
 use Rattle.bed_lang.specs.declared.module.Rel.{Rel}
@@ -60,10 +61,6 @@ returns_owe_one m f r =
 -- ---- no path goes on after what can't fall through
 
 -- where one of two lists can't be reached neither has a path
-or_false : (a b : Bool) → (a || b) ≡ false → (a ≡ false) × (b ≡ false)
-or_false true b e = absurd (cc)
-or_false false b e = (refl, e)
-
 module _ (site : Site) where
   abbrev Ends : Piece → Part → Type 0
   Ends code part = code.falls ≡ false → (p : Path) → part.goes_on p ≡ None
@@ -76,8 +73,8 @@ module _ (site : Site) where
 
   choice_ends : (t : Test) (ys ns : Piece) (yp np : Part) (j : Option Join) → Ends ys yp → Ends ns np → (ys.falls || ns.falls) ≡ false
       → (p : Path) → (choice site t yp np j).goes_on p ≡ None
-  choice_ends t ys ns yp np None hy hn e p = let o = or_false ys.falls ns.falls e in rw (hy o.0 (where_true t p), hn o.1 (where_false t p)) refl
-  choice_ends t ys ns yp np (Some j) hy hn e p = let o = or_false ys.falls ns.falls e in rw (hy o.0 (where_true t p), hn o.1 (where_false t p)) refl
+  choice_ends t ys ns yp np None hy hn e p = let o = or_parts ys.falls ns.falls e in rw (hy o.0 (where_true t p), hn o.1 (where_false t p)) refl
+  choice_ends t ys ns yp np (Some j) hy hn e p = let o = or_parts ys.falls ns.falls e in rw (hy o.0 (where_true t p), hn o.1 (where_false t p)) refl
 
   -- the last of a list decides; `falls` and q are what comes to the list
   list_ends : (ss : List ((s : Stmt) × StatementEnds s)) (falls : Bool) (q : Option Path) → (falls ≡ false → q ≡ None)

@@ -2,6 +2,7 @@
 use Rattle.std.proofs.Common.{◌≡◌, ℕ, suc, ◌+◌, Bool, true, false, IsTrue, Option, List, [], ◌∷◌, length, refl, ◌∙◌, ap, subst, arith, ◌==◌}
 use Rattle.std.specs.Cmp.{unsigned_Decides}
 use Rattle.std.specs.Cmp.Lexicographic.{pointwise}
+use Rattle.std.proofs.lemmas.Bool.{and_parts}
 use Rattle.bed_machine.specs.Memory.{Memory, wrap}
 use Rattle.bed_machine.specs.Machine.{MachineState}
 use Rattle.bed_lang.specs.declared.word.Name.{Name}
@@ -14,7 +15,6 @@ use Rattle.bed_sat.specs.Assertions.{World, Holds}
 use Rattle.bed_sat.specs.Frames.{words_at, set_words, frame_size, arguments_at, arguments, EntersAt, LeavesAt, Enters, Returned}
 use Rattle.bed_sat.specs.Declarations.{Extends}
 use Rattle.bed_sat.proofs.FrameLaws.{bytes_eq_is}
-use Rattle.bed_sat.proofs.ScopeLaws.{both}
 use Rattle.bed_sat.proofs.SameLaws.{holds_same, holds_extends}
 
 no : {A : Type 0} → ◌≡◌ {A = Bool} false true → A
@@ -22,7 +22,7 @@ no e = absurd cc
 
 names_long : (xs ys : List Name) → IsTrue (pointwise same_name xs ys) → length xs ≡ length ys
 names_long [] [] is = refl
-names_long (x ∷ xs) (y ∷ ys) is = ap suc (names_long xs ys (both (same_name x y) _ is).1)
+names_long (x ∷ xs) (y ∷ ys) is = ap suc (names_long xs ys (and_parts (same_name x y) _ is).1)
 names_long [] (y ∷ ys) is = no is
 names_long (x ∷ xs) [] is = no is
 
@@ -30,7 +30,7 @@ names_set : (ν : Values) (xs ys : List Name) (vs : List ℕ) → IsTrue (pointw
 names_set ν [] [] vs is = refl
 names_set ν (x ∷ xs) (y ∷ ys) [] is = refl
 names_set ν (x ∷ xs) (y ∷ ys) (v ∷ vs) is =
-    let h = both (same_name x y) _ is in
+    let h = and_parts (same_name x y) _ is in
     names_set (set_word ν (Named x.bytes) v) xs ys vs h.1 ∙ ap (λ n. set_words (set_word ν (Named n) v) ys vs) (bytes_eq_is x.bytes y.bytes h.0)
 names_set ν [] (y ∷ ys) vs is = no is
 names_set ν (x ∷ xs) [] vs is = no is
@@ -44,11 +44,11 @@ record SameParts (S T : Signature) : Type 0 where
 
 parts_of : (S T : Signature) → IsTrue (same_signature S T) → SameParts S T
 parts_of S T is =
-    let a = both (same_name S.name T.name) _ is in
-    let b = both (pointwise same_name S.params T.params) _ a.1 in
-    let c = both (S.reserve == T.reserve) _ b.1 in
-    let d = both (pointwise same_bind S.logical T.logical) _ c.1 in
-    let e = both (same_assertion S.pre T.pre) _ d.1 in
+    let a = and_parts (same_name S.name T.name) _ is in
+    let b = and_parts (pointwise same_name S.params T.params) _ a.1 in
+    let c = and_parts (S.reserve == T.reserve) _ b.1 in
+    let d = and_parts (pointwise same_bind S.logical T.logical) _ c.1 in
+    let e = and_parts (same_assertion S.pre T.pre) _ d.1 in
     record { params = b.0; reserve = (unsigned_Decides S.reserve T.reserve).0 c.0; pre = e.0; post = e.1 }
 
 module _ (w : World) (S T : Signature) (is : IsTrue (same_signature S T)) where

@@ -1,5 +1,6 @@
 -- What is written out has the code of the body.
 use Rattle.std.proofs.Common.{◌≡◌, ℕ, ◌+◌, Bool, true, None, List, [], ◌∷◌, ◌++◌, map, refl, sym, ◌∙◌, ap, ap₂, subst, arith, append-nil}
+use Rattle.std.proofs.lemmas.List.{map-append}
 use Rattle.bed_lang.specs.declared.word.Name.{Name}
 use Rattle.bed_lang.specs.declared.logic.Assertion.{Assertion}
 use Rattle.bed_lang.specs.declared.module.Operand.TheVariants.{Local}
@@ -85,10 +86,6 @@ as_one ps = record {
   heads_are = λ at. sym (append-nil (heads_of at ps));
 }
 
-map-append : (xs ys : List Stmt) → map piece (xs ++ ys) ≡ map piece xs ++ map piece ys
-map-append [] ys = refl
-map-append (x ∷ xs) ys = ap (λ (l : List Piece). piece x ∷ l) (map-append xs ys)
-
 -- ---- a turn of the loop over a list, and the loop
 
 pub piece_roll : (x : StmtKind-F StmtKind Stmt) (at : ℕ) (k : StmtKind) → roll-StmtKind x ≡ k
@@ -115,7 +112,7 @@ module _ (n v p : Name) where
       → map piece (node_front at n v ++ (visit ++ node_back at n v p)) ≡ nothing ∷ load v (field_at n 0) ∷ (map piece visit ++ turn_back)
   unfolding turn_back
   turn_pieces at visit =
-      ap₂ (λ (l m : List Piece). l ++ m) front (map-append visit (node_back at n v p) ∙ ap (λ (l : List Piece). map piece visit ++ l) back)
+      ap₂ (λ (l m : List Piece). l ++ m) front (map-append piece visit (node_back at n v p) ∙ ap (λ (l : List Piece). map piece visit ++ l) back)
     where
       front : map piece (node_front at n v) ≡ nothing ∷ load v (field_at n 0) ∷ []
       front = simp (piece-Hint, piece-Load) refl
@@ -193,13 +190,13 @@ written_of ss = joined (map written_statement (statements_of ss))
 list_same : (ss : List Known) → Same (map piece (written_of ss)) (map piece (statements_of ss))
 list_same [] = itself []
 list_same (s ∷ ss) =
-    subst (λ (ps : List Piece). Same ps (piece s.0 ∷ map piece (statements_of ss))) (sym (map-append (written_statement s.0) (written_of ss)))
+    subst (λ (ps : List Piece). Same ps (piece s.0 ∷ map piece (statements_of ss))) (sym (map-append piece (written_statement s.0) (written_of ss)))
     (both (map piece (written_statement s.0)) (map piece (written_of ss)) (piece s.0 ∷ []) (map piece (statements_of ss)) s.1.same (list_same ss))
 
 list_falls : (ss : List Known) (b : Bool) → falls_after b (map piece (written_of ss)) ≡ falls_after b (map piece (statements_of ss))
 list_falls [] b = refl
 list_falls (s ∷ ss) b =
-    ap (falls_after b) (map-append (written_statement s.0) (written_of ss))
+    ap (falls_after b) (map-append piece (written_statement s.0) (written_of ss))
     ∙ falls_after-append b (map piece (written_statement s.0)) (map piece (written_of ss))
     ∙ ap (λ c. falls_after c (map piece (written_of ss))) (s.1.falls_are b)
     ∙ list_falls ss (piece s.0).falls

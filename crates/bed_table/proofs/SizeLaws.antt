@@ -1,5 +1,6 @@
 -- Pieces have as many bytes as they say.
 use Rattle.std.proofs.Common.{◌≡◌, ℕ, ◌+◌, ◌*◌, Bool, true, false, List, [], ◌∷◌, ◌++◌, map, length, refl, sym, ◌∙◌, ap, ap₂, subst, arith, append_assoc, length-append}
+use Rattle.std.proofs.lemmas.List.{map-append}
 use Rattle.bed_lang.specs.declared.word.Name.{Name}
 use Rattle.bed_lang.specs.declared.module.Operand.{Operand}
 use Rattle.bed_lang.specs.declared.module.Operand.TheVariants.{Number, Local, Label}
@@ -277,15 +278,11 @@ heads_of-append at (p ∷ ps) qs =
     ap (λ l. p.heads at ++ l) (heads_of-append (at + p.size) ps qs ∙ ap (λ x. heads_of (at + p.size) ps ++ heads_of x qs) e)
     ∙ sym (append_assoc (p.heads at) _ _)
 
-pieces-append : (xs ys : List Stmt) → map piece (xs ++ ys) ≡ map piece xs ++ map piece ys
-pieces-append [] ys = refl
-pieces-append (x ∷ xs) ys = ap (λ l. piece x ∷ l) (pieces-append xs ys)
-
 pub bodies_are_sequences : BodiesAreSequences
 bodies_are_sequences xs ys = record {
-  size_is = ap size_of (pieces-append xs ys) ∙ size_of-append (map piece xs) (map piece ys);
-  bytes_are = λ locals labels at. ap (λ l. bytes_of locals labels at l) (pieces-append xs ys) ∙ bytes_of-append locals labels at (map piece xs) (map piece ys);
-  heads_are = λ at. ap (λ l. heads_of at l) (pieces-append xs ys) ∙ heads_of-append at (map piece xs) (map piece ys);
+  size_is = ap size_of (map-append piece xs ys) ∙ size_of-append (map piece xs) (map piece ys);
+  bytes_are = λ locals labels at. ap (λ l. bytes_of locals labels at l) (map-append piece xs ys) ∙ bytes_of-append locals labels at (map piece xs) (map piece ys);
+  heads_are = λ at. ap (λ l. heads_of at l) (map-append piece xs ys) ∙ heads_of-append at (map piece xs) (map piece ys);
 }
 
 -- ---- the whole code

@@ -1,9 +1,10 @@
 -- What the built modules are: functions that return what their signatures promise. Scoping changes nothing in them.
-use Rattle.std.proofs.Common.{◌≡◌, ℕ, zero, suc, ◌+◌, ◌++◌, ◌≤◌, ◌<◌, Bool, true, false, ◌||◌, ◌&&◌, not, nat_eq, Option, Some, None, option_and_then, List, [], ◌∷◌, map, length, bytes_eq, slice_get, refl, sym, ◌∙◌, ap, subst, arith, if◌then◌else◌}
+use Rattle.std.proofs.Common.{◌≡◌, ℕ, zero, suc, ◌+◌, ◌++◌, ◌≤◌, ◌<◌, Bool, true, false, ◌||◌, not, nat_eq, Option, Some, None, option_and_then, List, [], ◌∷◌, map, length, bytes_eq, slice_get, refl, sym, ◌∙◌, ap, subst, arith, if◌then◌else◌}
 use Rattle.std.specs.List.{list_all}
 use Rattle.std.specs.Cmp.{unsigned_Decides}
 use Rattle.std.proofs.lemmas.Slice.Eq.{bytes_eq-Decides}
 use Rattle.std.proofs.lemmas.Bool.Decides.{nat_tests}
+use Rattle.std.proofs.lemmas.Bool.{and_parts}
 use Rattle.bed_lang.specs.declared.word.Name.{Name}
 use Rattle.bed_lang.specs.declared.word.Var.{Var}
 use Rattle.bed_lang.specs.declared.word.Var.TheVariants as var
@@ -47,14 +48,6 @@ or_cases : (a b : Bool) → (a || b) ≡ true → (a ≡ false → b ≡ true)
 or_cases true b h e = absurd (cc)
 or_cases false b h e = h
 
-and_first : (a b : Bool) → (a && b) ≡ true → a ≡ true
-and_first true b h = refl
-and_first false b h = absurd (cc)
-
-and_second : (a b : Bool) → (a && b) ≡ true → b ≡ true
-and_second true b h = h
-and_second false b h = absurd (cc)
-
 equal_bytes : (a b : List ℕ) → a ≡ b → bytes_eq a b ≡ true
 equal_bytes a b e = (bytes_eq-Decides a b).1 e
 
@@ -86,12 +79,12 @@ there (n ∷ ns) x y (suc j) at e = rw (there ns x y j at e) (by_first (same_nam
 alone : (names : List Name) (x y : Name) (j : ℕ) → all_differ names ≡ true → slice_get names j ≡ Some y → y.bytes ≡ x.bytes → j ≡ number_of names x.bytes
 alone [] x y j d at e = absurd (cc)
 alone (n ∷ ns) x y zero d at e = let same : n ≡ y = cc in rw (equal_bytes n.bytes x.bytes (ap (λ (z : Name). z.bytes) same ∙ e)) refl
-alone (n ∷ ns) x y (suc j) d at e = by_test (bytes_eq n.bytes x.bytes) refl (alone ns x y j (and_second (not (has_name ns n)) (all_differ ns) d) at e)
+alone (n ∷ ns) x y (suc j) d at e = by_test (bytes_eq n.bytes x.bytes) refl (alone ns x y j (and_parts (not (has_name ns n)) (all_differ ns) d).1 at e)
   where
     by_test : (b : Bool) → bytes_eq n.bytes x.bytes ≡ b → j ≡ number_of ns x.bytes → suc j ≡ number_of (n ∷ ns) x.bytes
     by_test true t later =
         let again : has_name ns n ≡ true = there ns n y j at (e ∙ sym (bytes_eq_is n.bytes x.bytes t)) in
-        let none : not (has_name ns n) ≡ true = and_first (not (has_name ns n)) (all_differ ns) d in
+        let none : not (has_name ns n) ≡ true = (and_parts (not (has_name ns n)) (all_differ ns) d).0 in
         absurd (not_both (has_name ns n) again none)
       where
         not_both : (b : Bool) → b ≡ true → not b ≡ true → ⊥
@@ -219,11 +212,11 @@ found_is_built : (ss : List Signature) (name : List ℕ) (S : Signature) → lis
     → signature_is_built S ≡ true
 found_is_built [] name S all h = absurd (cc)
 found_is_built (s ∷ ss) name S all h =
-    by_test (bytes_eq s.name.bytes name) refl h (found_is_built ss name S (and_second (signature_is_built s) (list_all signature_is_built ss) all))
+    by_test (bytes_eq s.name.bytes name) refl h (found_is_built ss name S (and_parts (signature_is_built s) (list_all signature_is_built ss) all).1)
   where
     by_test : (b : Bool) → bytes_eq s.name.bytes name ≡ b → ◌≡◌ {A = Option Signature} (if b then Some s else first_signature ss name) (Some S)
         → (first_signature ss name ≡ Some S → signature_is_built S ≡ true) → signature_is_built S ≡ true
-    by_test true t h later = let same : s ≡ S = cc in subst (λ (z : Signature). signature_is_built z ≡ true) same (and_first (signature_is_built s) (list_all signature_is_built ss) all)
+    by_test true t h later = let same : s ≡ S = cc in subst (λ (z : Signature). signature_is_built z ≡ true) same (and_parts (signature_is_built s) (list_all signature_is_built ss) all).0
     by_test false t h later = later h
 
 -- the parts of a built signature
@@ -237,17 +230,17 @@ pub record IsBuiltSignature (s : Signature) : Type 0 where
 
 built_signature : (s : Signature) → signature_is_built s ≡ true → IsBuiltSignature s
 built_signature s h =
-    let a = and_second (nat_eq s.reserve 0) _ h in
-    let b = and_second (is_empty s.logical) _ a in
-    let c = and_second (all_differ s.params) _ b in
-    let d = and_second (is_empty_memory s.pre) _ c in
+    let a = (and_parts (nat_eq s.reserve 0) _ h).1 in
+    let b = (and_parts (is_empty s.logical) _ a).1 in
+    let c = (and_parts (all_differ s.params) _ b).1 in
+    let d = (and_parts (is_empty_memory s.pre) _ c).1 in
     record {
-      no_reserve = and_first (nat_eq s.reserve 0) _ h;
-      no_logical = and_first (is_empty s.logical) _ a;
-      different = and_first (all_differ s.params) _ b;
-      no_memory = and_first (is_empty_memory s.pre) _ c;
-      no_binders = and_first (is_empty s.post.binders) _ d;
-      promises = and_second (is_empty s.post.binders) _ d;
+      no_reserve = (and_parts (nat_eq s.reserve 0) _ h).0;
+      no_logical = (and_parts (is_empty s.logical) _ a).0;
+      different = (and_parts (all_differ s.params) _ b).0;
+      no_memory = (and_parts (is_empty_memory s.pre) _ c).0;
+      no_binders = (and_parts (is_empty s.post.binders) _ d).0;
+      promises = (and_parts (is_empty s.post.binders) _ d).1;
     }
 
 -- a function of built parts, whose signature promises a word and which returns an operand that says the same
@@ -272,15 +265,15 @@ module _ (ss : List Signature) (f : Function) (all : list_all signature_is_built
     found = found;
     value = value.0;
     promises = record {
-      pre_binders = empty S.pre.binders (and_first (is_empty S.pre.binders) _ parts.no_memory);
-      pre_terms = just_emp S.pre.terms (and_second (is_empty S.pre.binders) _ parts.no_memory);
+      pre_binders = empty S.pre.binders (and_parts (is_empty S.pre.binders) _ parts.no_memory).0;
+      pre_terms = just_emp S.pre.terms (and_parts (is_empty S.pre.binders) _ parts.no_memory).1;
       post_binders = empty S.post.binders parts.no_binders;
       place = term_is.0;
       word = w;
       post_terms = term_is.1;
       says = value.1;
     };
-    locals = empty f.locals (and_first (is_empty f.locals) _ built);
+    locals = empty f.locals (and_parts (is_empty f.locals) _ built).0;
     place = body_is.0;
     returned = a;
     body = body_is.1;
@@ -307,20 +300,20 @@ all_return : (k : ℕ) (ss : List Signature) (fs : List Function) → list_all s
     → first_broken k ss fs ≡ None → AreReturnFunctions ss fs
 all_return k ss [] all built none = tt
 all_return k ss (f ∷ fs) all built none =
-    by_test (keeps_promise ss f) refl none (all_return (k + 1) ss fs all (and_second (function_is_built f) _ built))
+    by_test (keeps_promise ss f) refl none (all_return (k + 1) ss fs all (and_parts (function_is_built f) _ built).1)
   where
     by_test : (b : Bool) → keeps_promise ss f ≡ b → ◌≡◌ {A = Option ℕ} (if b then first_broken (k + 1) ss fs else Some k) None
         → (first_broken (k + 1) ss fs ≡ None → AreReturnFunctions ss fs) → AreReturnFunctions ss (f ∷ fs)
-    by_test true t h later = (returns_value ss f all (and_first (function_is_built f) _ built) t, later h)
+    by_test true t h later = (returns_value ss f all (and_parts (function_is_built f) _ built).0 t, later h)
     by_test false t h later = absurd (cc)
 
 -- the functions of a built module none of whose conditions is broken
 pub are_return_functions : (m : Module) → module_is_built m ≡ true → broken_condition m ≡ None → AreReturnFunctions m.signatures m.functions
 are_return_functions m built none =
-    let a = and_second (is_empty m.predicates) _ built in
-    let b = and_second (is_empty m.imports) _ a in
-    all_return 1 m.signatures m.functions (and_first (list_all signature_is_built m.signatures) _ b)
-    (and_second (list_all signature_is_built m.signatures) _ b) none
+    let a = (and_parts (is_empty m.predicates) _ built).1 in
+    let b = (and_parts (is_empty m.imports) _ a).1 in
+    all_return 1 m.signatures m.functions (and_parts (list_all signature_is_built m.signatures) _ b).0
+    (and_parts (list_all signature_is_built m.signatures) _ b).1 none
 
 -- its code is short
 pub is_short : (m : Module) → module_is_built m ≡ true → broken_condition m ≡ None → length m.functions ≤ 1024 → code_length (m ∷ []) ≤ 22528
@@ -354,8 +347,8 @@ has_outside m built = (
   where
     imports : m.imports ≡ []
     imports =
-        let others = and_second (is_empty m.predicates) _ built in
-        empty m.imports (and_first (is_empty m.imports) _ others)
+        let others = (and_parts (is_empty m.predicates) _ built).1 in
+        empty m.imports (and_parts (is_empty m.imports) _ others).0
 
     none : (linked (m ∷ []) base []).imports ≡ []
     none =
@@ -383,7 +376,7 @@ signature_resolved : (d : Decls) (s : Signature) → signature_is_built (resolve
 signature_resolved d s h =
     let parts = built_signature (resolved_signature d s) h in
     let pre = emp_resolved (with_names (plain d (signature_names s) false) s.pre.binders) s.pre.terms
-    (and_second (is_empty s.pre.binders) _ parts.no_memory) in
+    (and_parts (is_empty s.pre.binders) _ parts.no_memory).1 in
     let post = promise_resolved (with_names (plain d (signature_names s) true) s.post.binders) s.params s.post.terms parts.promises in
     ap (λ (ts : List Term). record s { pre = record s.pre { terms = ts }; post = resolved_assertion (plain d (signature_names s) true) s.post }) pre
     ∙ ap (λ (ts : List Term). record s { post = record s.post { terms = ts } }) post
@@ -392,8 +385,8 @@ signatures_resolved : (d : Decls) (ss : List Signature) → list_all signature_i
 signatures_resolved d [] h = refl
 signatures_resolved d (s ∷ ss) h =
     rw (
-      signatures_resolved d ss (and_second (signature_is_built (resolved_signature d s)) _ h),
-      signature_resolved d s (and_first (signature_is_built (resolved_signature d s)) _ h),
+      signatures_resolved d ss (and_parts (signature_is_built (resolved_signature d s)) _ h).1,
+      signature_resolved d s (and_parts (signature_is_built (resolved_signature d s)) _ h).0,
     ) refl
 
 returned_roll : (l : StmtKind-F StmtKind Stmt) (k : StmtKind) → roll-StmtKind l ≡ k → returned_of (out-StmtKind k) ≡ returned_of l
@@ -453,24 +446,24 @@ body_resolved v (s ∷ []) h = by_returned (returned_of (out-StmtKind (resolved_
 function_resolved : (d : Decls) (f : Function) → function_is_built (resolved_function d f) ≡ true → resolved_function d f ≡ f
 function_resolved d f h =
     ap (λ (body : List Stmt). record f { body = body })
-    (body_resolved (function_visible d (signature_named d f.signature) f) f.body (and_second (is_empty f.locals) _ h))
+    (body_resolved (function_visible d (signature_named d f.signature) f) f.body (and_parts (is_empty f.locals) _ h).1)
 
 functions_resolved : (d : Decls) (fs : List Function) → list_all function_is_built (map (resolved_function d) fs) ≡ true → map (resolved_function d) fs ≡ fs
 functions_resolved d [] h = refl
 functions_resolved d (f ∷ fs) h =
     rw (
-      functions_resolved d fs (and_second (function_is_built (resolved_function d f)) _ h),
-      function_resolved d f (and_first (function_is_built (resolved_function d f)) _ h),
+      functions_resolved d fs (and_parts (function_is_built (resolved_function d f)) _ h).1,
+      function_resolved d f (and_parts (function_is_built (resolved_function d f)) _ h).0,
     ) refl
 
 -- a module that is built once it is scoped is that module
 pub module_resolved : (m : Module) → module_is_built (resolved m) ≡ true → resolved m ≡ m
 module_resolved m h =
-    let a = and_second (is_empty (resolved m).predicates) _ h in
-    let b = and_second (is_empty m.imports) _ a in
-    let no_predicates = empty_map m.predicates (and_first (is_empty (resolved m).predicates) _ h) in
-    let signatures = signatures_resolved (declarations m) m.signatures (and_first (list_all signature_is_built (resolved m).signatures) _ b) in
-    let functions = functions_resolved (declarations m) m.functions (and_second (list_all signature_is_built (resolved m).signatures) _ b) in
+    let a = (and_parts (is_empty (resolved m).predicates) _ h).1 in
+    let b = (and_parts (is_empty m.imports) _ a).1 in
+    let no_predicates = empty_map m.predicates (and_parts (is_empty (resolved m).predicates) _ h).0 in
+    let signatures = signatures_resolved (declarations m) m.signatures (and_parts (list_all signature_is_built (resolved m).signatures) _ b).0 in
+    let functions = functions_resolved (declarations m) m.functions (and_parts (list_all signature_is_built (resolved m).signatures) _ b).1 in
     ap (λ ss. record (resolved m) { signatures = ss }) signatures ∙ ap (λ ps. record (resolved m) { signatures = m.signatures; predicates = ps }) no_predicates
     ∙ ap (λ fs. record m { functions = fs }) functions
   where

@@ -1,7 +1,8 @@
 -- Lists of texts: their modules are one list at most, and none of them is refused where all are modules. And texts that are cut where they are too long.
-use Rattle.std.proofs.Common.{◌≡◌, ℕ, ◌+◌, ◌≤◌, ◌<◌, Bool, true, false, ◌||◌, List, [], ◌∷◌, length, map, take, take_all, length-take-le, nat_lt, inl, inr, refl, sym, ◌∙◌, ap, arith}
+use Rattle.std.proofs.Common.{◌≡◌, ℕ, ◌+◌, ◌≤◌, ◌<◌, Bool, true, false, List, [], ◌∷◌, length, map, take, take_all, length-take-le, nat_lt, inl, inr, refl, sym, ◌∙◌, ap, arith}
 use Rattle.std.specs.List.{list_any}
 use Rattle.std.proofs.lemmas.Bool.Decides.{nat_tests}
+use Rattle.std.proofs.lemmas.Bool.{or_parts}
 use Rattle.bed_io.specs.Files.{up_to}
 use Rattle.bed_lang.specs.declared.module.Module.{Module}
 use Rattle.bed_read.specs.declared.whole.ReadError.{ReadError}
@@ -54,14 +55,10 @@ pub cut_texts : (texts : List (List ℕ)) → list_any is_long (map (up_to most_
 cut_texts [] = refl
 cut_texts (t ∷ ts) = rw (cut_texts ts, cut_long t) refl
 
-neither : (a b : Bool) → (a || b) ≡ false → (a ≡ false) × (b ≡ false)
-neither true b h = absurd (cc)
-neither false b h = (refl, h)
-
 pub whole_texts : (texts : List (List ℕ)) → list_any is_long texts ≡ false → map (up_to most_text) texts ≡ texts
 whole_texts [] h = refl
 whole_texts (t ∷ ts) h =
-    let parts = neither (is_long t) (list_any is_long ts) h in
+    let parts = or_parts (is_long t) (list_any is_long ts) h in
     rw (whole_texts ts parts.1, whole_short t parts.0) refl
 
 pub cut_contents : (bytes : List ℕ → List ℕ) (names : List (List ℕ)) → map (λ file. up_to most_text (bytes file)) names ≡ map (up_to most_text) (map bytes names)

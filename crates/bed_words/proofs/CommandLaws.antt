@@ -3,6 +3,7 @@ use Rattle.std.proofs.Common.{◌≡◌, ℕ, suc, zero, ◌+◌, ◌<◌, ◌�
 use Rattle.std.specs.Prelude.{bytes_eq, Result}
 use Rattle.std.proofs.lemmas.Bool.Decides.{nat_tests}
 use Rattle.std.proofs.lemmas.Slice.Eq.{bytes_eq-Decides}
+use Rattle.std.proofs.lemmas.Bool.{cases_Bool}
 use Rattle.bed_words.specs.declared.verb.Verb.{Verb}
 use Rattle.bed_words.specs.declared.verb.Verb.TheVariants as verb
 use Rattle.bed_words.specs.declared.command.Command.{Command}
@@ -15,7 +16,7 @@ use Rattle.bed_words.specs.Commands.{IsCommand, word_of}
 use Rattle.bed_words.specs.Limits.{limit_of}
 use Rattle.bed_words.specs.Usage.{Begins, IsUsage, PassesLimit, Answers, OneCommand, OneAnswer, HasAnswer}
 use Rattle.bed_words.specs.Reading.{verb_of, later, read_options, read_after, read_words, Gives}
-use Rattle.bed_words.proofs.OptionLaws.{either, has-required, required-lacks}
+use Rattle.bed_words.proofs.OptionLaws.{has-required, required-lacks}
 use Rattle.bed_words.proofs.ReadingLaws.{IsReading, read, sound, complete, begins, stays, within, not_both, Completes}
 
 -- the first word of a command names it
@@ -31,7 +32,7 @@ verb_of-word verb.Gen = refl
 
 chosen : (w : List ℕ) (u v : Verb) (rest : Option Verb) → (if bytes_eq w (word_of u) then Some u else rest) ≡ Some v
     → (w ≡ word_of v) ⊎ (rest ≡ Some v)
-chosen w u v rest e = by (either (bytes_eq w (word_of u)))
+chosen w u v rest e = by (cases_Bool (bytes_eq w (word_of u)))
   where
     by : (bytes_eq w (word_of u) ≡ true) ⊎ (bytes_eq w (word_of u) ≡ false) → (w ≡ word_of v) ⊎ (rest ≡ Some v)
     by (inl t) =

@@ -3,26 +3,11 @@ use Rattle.std.proofs.Common.{◌≡◌, ℕ, ◌+◌, ◌≤◌, ◌⊎◌, inl
 use Rattle.std.specs.Prelude.{bytes_eq, IsTrue}
 use Rattle.std.proofs.lemmas.Bool.Decides.{nat_tests}
 use Rattle.std.proofs.lemmas.Slice.Eq.{bytes_eq-Decides}
+use Rattle.std.proofs.lemmas.Bool.{cases_Bool, and_parts, not-true, not-false}
 use Rattle.bed_words.specs.declared.verb.Verb.{Verb}
 use Rattle.bed_words.specs.declared.verb.Verb.TheVariants as verb
 use Rattle.bed_words.specs.Options.{takes, repeats, times, is_given, IsOnceEach, HasRequired}
 use Rattle.bed_words.specs.Reading.{may_come, lacks}
-
-pub either : (b : Bool) → (b ≡ true) ⊎ (b ≡ false)
-either true = inl refl
-either false = inr refl
-
-pub and_true : (a b : Bool) → (a && b) ≡ true → (a ≡ true) × (b ≡ true)
-and_true true b h = (refl, h)
-and_true false b h = cc
-
-pub not_true : (b : Bool) → not b ≡ true → b ≡ false
-not_true true h = cc
-not_true false h = refl
-
-pub not_false : (b : Bool) → not b ≡ false → b ≡ true
-not_false true h = refl
-not_false false h = cc
 
 -- words that come in pairs
 abbrev pub IsPaired : List (List ℕ) → Type 0
@@ -69,13 +54,13 @@ is_given-last name value before p =
 -- where an option may come after others, no option is given twice
 pub once-two : (v : Verb) (before : List (List ℕ)) (o value : List ℕ) → IsPaired before → may_come v before o ≡ true
     → IsOnceEach before → IsOnceEach (before ++ o ∷ value ∷ [])
-once-two v before o value p may once name single = at_most (either (bytes_eq o name))
+once-two v before o value p may once name single = at_most (cases_Bool (bytes_eq o name))
   where
     new : not (is_given o before) ≡ true → times o before ≡ 0
-    new h = is_given-none o before (not_true (is_given o before) h)
+    new h = is_given-none o before (not-true (is_given o before) h)
 
     first : repeats o ≡ false → times o before ≡ 0
-    first e = new (subst (λ b. (b || not (is_given o before)) ≡ true) e (and_true (takes v o) (repeats o || not (is_given o before)) may).1)
+    first e = new (subst (λ b. (b || not (is_given o before)) ≡ true) e (and_parts (takes v o) (repeats o || not (is_given o before)) may).1)
 
     counted : (b : Bool) → bytes_eq o name ≡ b → times name (before ++ o ∷ value ∷ []) ≡ times name before + (one_if b + 0)
     counted b e = times-append name before (o ∷ value ∷ []) p ∙ ap (λ c. times name before + (one_if c + 0)) e
@@ -96,7 +81,7 @@ once-two v before o value p may once name single = at_most (either (bytes_eq o n
 -- where no option is given twice, each may come after those before it
 pub once-may_come : (v : Verb) (before : List (List ℕ)) (o value : List ℕ) (rest : List (List ℕ)) → IsPaired before → IsTrue (takes v o)
     → IsOnceEach (before ++ o ∷ value ∷ rest) → may_come v before o ≡ true
-once-may_come v before o value rest p taken once = ap (λ b. b && (repeats o || not (is_given o before))) taken ∙ by (either (repeats o))
+once-may_come v before o value rest p taken once = ap (λ b. b && (repeats o || not (is_given o before))) taken ∙ by (cases_Bool (repeats o))
   where
     none : (n k r : ℕ) → n ≡ k + (1 + r) → n ≤ 1 → k ≡ 0
     none n k r e l = omega arith
@@ -113,9 +98,9 @@ once-may_come v before o value rest p taken once = ap (λ b. b && (repeats o || 
 -- the option that a command must have
 pub has-required : (v : Verb) (options : List (List ℕ)) → lacks v options ≡ false → HasRequired v options
 has-required verb.Link options h = tt
-has-required verb.Check options h = not_false _ h
-has-required verb.Run options h = not_false _ h
-has-required verb.Exec options h = not_false _ h
+has-required verb.Check options h = not-false _ h
+has-required verb.Run options h = not-false _ h
+has-required verb.Exec options h = not-false _ h
 has-required verb.Disasm options h = tt
 has-required verb.Conditions options h = tt
 has-required verb.Gen options h = tt

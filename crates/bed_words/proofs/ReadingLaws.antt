@@ -2,6 +2,7 @@
 -- whatever follows it, and that the words before it begin a command.
 use Rattle.std.proofs.Common.{◌≡◌, ℕ, suc, ◌+◌, ◌<◌, ◌≤◌, ◌⊎◌, inl, inr, Bool, true, false, not, if◌then◌else◌, List, [], ◌∷◌, ◌++◌, length, take, codes, refl, sym, ap, ◌∙◌, subst, arith, Option, Some, None, Ok, Err, append_assoc, append-nil}
 use Rattle.std.specs.Prelude.{bytes_eq, is_some, Result}
+use Rattle.std.proofs.lemmas.Bool.{cases_Bool, and_parts}
 use Rattle.bed_words.specs.declared.verb.Verb.{Verb}
 use Rattle.bed_words.specs.declared.verb.Verb.TheVariants as verb
 use Rattle.bed_words.specs.declared.command.Command.{Command}
@@ -12,7 +13,7 @@ use Rattle.bed_words.specs.Values.{number_of, import_of, block_of, size_of}
 use Rattle.bed_words.specs.Options.{is_option, takes, names_file, fits, IsOnceEach, AreOptions}
 use Rattle.bed_words.specs.Commands.{IsPlain, command_of, generates}
 use Rattle.bed_words.specs.Reading.{may_come, lacks, lawful_plain, or_wrong, read_plain, read_files, later, read_last, read_two, read_options}
-use Rattle.bed_words.proofs.OptionLaws.{either, and_true, IsPaired, paired-two, is_given-last, once-two, once-may_come}
+use Rattle.bed_words.proofs.OptionLaws.{IsPaired, paired-two, is_given-last, once-two, once-may_come}
 
 -- one step of the reading
 module _ (v : Verb) (before : List (List ℕ)) where
@@ -84,9 +85,9 @@ read-two v before w x rest (inl e) (inl f) (inl g) further = given before w x re
 
 pub read : (v : Verb) (before words : List (List ℕ)) → Read v before words
 read v before [] = ends before
-read v before (w ∷ []) = read-one v before w (either (is_option w)) (either (may_come v before w))
+read v before (w ∷ []) = read-one v before w (cases_Bool (is_option w)) (cases_Bool (may_come v before w))
 read v before (w ∷ x ∷ rest) =
-    read-two v before w x rest (either (is_option w)) (either (may_come v before w)) (either (fits w x)) (read v (before ++ w ∷ x ∷ []) rest)
+    read-two v before w x rest (cases_Bool (is_option w)) (cases_Bool (may_come v before w)) (cases_Bool (fits w x)) (read v (before ++ w ∷ x ∷ []) rest)
 
 later-Err : (n : ℕ) (r : Result Command ℕ) (i : ℕ) → later n r ≡ Err i → (j : ℕ) × ((r ≡ Err j) × (i ≡ j + n))
 later-Err n (Ok c) i e = absurd (cc)
@@ -156,6 +157,9 @@ files-stay v o ws i e l more = by (lacks v o) e
     by false e = plain-stays v o ws i e l more
 
 -- a wrong word that is there stays wrong, whatever follows it
+two_more : (j i : ℕ) → i ≡ j + 2 → suc (suc j) ≡ i
+two_more j i e = omega arith
+
 pub stays : (v : Verb) (before words : List (List ℕ)) → Read v before words → (i : ℕ) → read_options v before words ≡ Err i → i < length words
     → (more : List (List ℕ)) → read_options v before (take (suc i) words ++ more) ≡ Err i
 stays v before words (ends _) i e l more = absurd (omega arith)
@@ -179,9 +183,6 @@ stays v before words (given _ w x rest o m f further) i e l more =
     ∙ ap (later 2) (stays v (before ++ w ∷ x ∷ []) rest further j inner.1.0 below more)
     ∙ ap (λ n. Err n) (plus_two j))
   where
-    two_more : (j i : ℕ) → i ≡ j + 2 → suc (suc j) ≡ i
-    two_more j i e = omega arith
-
     shorter : (j i n : ℕ) → suc (suc j) ≡ i → i < suc (suc n) → j < n
     shorter j i n e l = omega arith
 
@@ -230,7 +231,7 @@ completes-lacking verb.Gen before p l = absurd (cc)
 
 -- some command begins with any options
 completes : (v : Verb) (before : List (List ℕ)) → IsPaired before → Completes v before []
-completes v before p = by (either (lacks v before))
+completes v before p = by (cases_Bool (lacks v before))
   where
     by : (lacks v before ≡ true) ⊎ (lacks v before ≡ false) → Completes v before []
     by (inl l) = completes-lacking v before p l
@@ -314,7 +315,7 @@ at_second v before w ws i e c = let same : 1 ≡ i = cc in subst (λ n. Complete
 
 files-begin : (v : Verb) (before ws : List (List ℕ)) (i : ℕ) → IsPaired before → IsPlain ws → read_files v before ws ≡ Err i
     → Completes v before (take i ws)
-files-begin v before ws i p b e = by (either (lacks v before))
+files-begin v before ws i p b e = by (cases_Bool (lacks v before))
   where
     by : (lacks v before ≡ true) ⊎ (lacks v before ≡ false) → Completes v before (take i ws)
     by (inl l) = at_first v before ws i p (sym (ap (λ c. if c then Err 0 else read_plain v before ws) l) ∙ e)
@@ -337,9 +338,6 @@ begins v before words (given _ w x rest o m f further) i p e =
     subst (λ n. Completes v before (take n (w ∷ x ∷ rest))) two
     (after_option v before w x (take j rest) o m f
     (begins v (before ++ w ∷ x ∷ []) rest further j (paired-two before w x p) inner.1.0))
-  where
-    two_more : (j i : ℕ) → i ≡ j + 2 → suc (suc j) ≡ i
-    two_more j i e = omega arith
 
 at_most : (k i n : ℕ) → ◌≡◌ {A = Result Command ℕ} (Err k) (Err i) → k ≤ n → i ≤ n
 at_most k i n e l = let same : k ≡ i = cc in omega arith
@@ -414,7 +412,7 @@ or_wrong-Ok None i c e = absurd (cc)
 or_wrong-Ok (Some d) i c e = cc
 
 files-Ok : (v : Verb) (o ws : List (List ℕ)) (c : Command) → read_files v o ws ≡ Ok c → (lacks v o ≡ false) × (command_of v o ws ≡ Some c)
-files-Ok v o ws c e = by (either (lacks v o))
+files-Ok v o ws c e = by (cases_Bool (lacks v o))
   where
     by : (lacks v o ≡ true) ⊎ (lacks v o ≡ false) → (lacks v o ≡ false) × (command_of v o ws ≡ Some c)
     by (inl l) = absurd (not_both 0 c (sym (ap (λ b. if b then Err 0 else read_plain v o ws) l) ∙ e))
@@ -452,7 +450,7 @@ sound v before words (given _ w x rest o m f further) c p e =
       options = w ∷ x ∷ r.options;
       plain = r.plain;
       stands = ap (λ ws. w ∷ x ∷ ws) r.stands;
-      listed = (o, (and_true (takes v w) _ m).0, f, r.listed);
+      listed = (o, (and_parts (takes v w) _ m).0, f, r.listed);
       once = λ h. subst IsOnceEach whole (r.once (once-two v before w x p m h));
       needed = subst (λ z. lacks v z ≡ false) whole r.needed;
       begins = r.begins;

@@ -1,15 +1,12 @@
 -- The limits on what a command counts.
 use Rattle.std.specs.Prelude.{ℕ, Bool, false, ◌||◌, nat_lt, length, if◌then◌else◌, Option, None, Some}
+use Rattle.std.specs.Option.{option_or}
 use Rattle.bed_words.specs.declared.command.Command.{Command}
 use Rattle.bed_words.specs.declared.command.Command.TheVariants as command
 use Rattle.bed_words.specs.declared.command.Job.{Job}
 use Rattle.bed_words.specs.declared.command.Start.{Start}
 use Rattle.bed_lang.specs.declared.limit.Which.{Which}
 use Rattle.bed_lang.specs.declared.limit.Which.TheVariants as which
-
-abbrev pub or_else : Option Which → Option Which → Option Which
-or_else None next = next
-or_else (Some first) next = Some first
 
 -- more than 64 modules, or more than 1,024 imports
 abbrev pub job_limit : Job → Option Which
@@ -32,7 +29,7 @@ start_limit start =
 abbrev pub limit_of : Command → Option Which
 limit_of (command.Link job) = job_limit job
 limit_of (command.Check job) = job_limit job
-limit_of (command.Run job start) = or_else (job_limit job) (start_limit start)
+limit_of (command.Run job start) = option_or (job_limit job) (start_limit start)
 limit_of (command.Exec image start) = start_limit start
 limit_of (command.Disasm image) = None
 limit_of (command.Conditions job) = job_limit job
