@@ -8,12 +8,10 @@ use Rattle.bed_lang.specs.declared.word.Name.{Name}
 use Rattle.bed_lang.specs.declared.word.Sort.{Sort}
 use Rattle.bed_lang.specs.declared.word.Sort.TheVariants as sort
 use Rattle.bed_lang.specs.declared.word.Var.TheVariants as var
-use Rattle.bed_lang.specs.declared.word.Word.{Word, out-Word, roll-Word, out-roll-Word, map-Word, ind-Word, fold-roll-Word}
+use Rattle.bed_lang.specs.declared.word.Word.{Word, out-Word, roll-Word, out-roll-Word, map-Word, ind-Word}
 use Rattle.bed_lang.specs.declared.word.Word.TheOpen.{Word-F}
-use Rattle.bed_lang.specs.declared.word.Word.TheVariants.{rolls-Number, rolls-Var, rolls-Label, rolls-Add, rolls-Sub, rolls-Times}
-use Rattle.bed_lang.specs.declared.word.Seq.{Seq, out-Seq, roll-Seq, out-roll-Seq, map-Seq, ind-Seq, fold-roll-Seq}
+use Rattle.bed_lang.specs.declared.word.Seq.{Seq, out-Seq, roll-Seq, out-roll-Seq, map-Seq, ind-Seq}
 use Rattle.bed_lang.specs.declared.word.Seq.TheOpen.{Seq-F}
-use Rattle.bed_lang.specs.declared.word.Seq.TheVariants.{rolls-Var as seq_rolls-Var, rolls-Nil, rolls-Cons, rolls-App}
 use Rattle.bed_lang.specs.declared.logic.Arg.TheVariants as arg
 use Rattle.bed_lang.specs.declared.logic.Pure.TheVariants as pure
 use Rattle.bed_lang.specs.declared.logic.Atom.TheVariants as atom
@@ -32,10 +30,10 @@ use Rattle.bed_lang.specs.declared.module.Hint.TheVariants as hint
 use Rattle.bed_lang.specs.declared.module.Join.{Join}
 use Rattle.bed_lang.specs.declared.statement.Stmt.{Stmt, ind-Stmt, fold-roll-Stmt}
 use Rattle.bed_lang.specs.declared.statement.StmtKind.{StmtKind, StmtKind-F, out-StmtKind, roll-StmtKind, out-roll-StmtKind, map-StmtKind, ind-StmtKind, fold-roll-StmtKind}
-use Rattle.bed_lang.specs.declared.statement.StmtKind.TheVariants.{rolls-Assign, rolls-Compute, rolls-Load, rolls-LoadByte, rolls-Store, rolls-StoreByte, rolls-Call, rolls-If, rolls-While, rolls-Return, rolls-Hint, rolls-Find, rolls-Walk}
 use Rattle.bed_lang.specs.Same.{same_option, same_flag, same_sort, same_name, same_var, same_word_layer, same_word, same_seq_layer, same_seq, same_arg, same_pure, same_atom, same_term, same_bind, same_assertion, same_operand, same_op, same_rel, same_signature, same_predicate, same_import, same_place, same_test, same_hint, same_join, accepts_all, same_kind_layer, same_kind_step, same_stmt_step, same_kind, same_stmt, same_function, same_module}
 use Rattle.bed_lang.proofs.RollLaws.{same_word-roll, same_seq-roll}
-use Rattle.bed_print.proofs.Places.{bare_option, bare_name, bare_var, bare_word_step, bare_word, bare_seq_step, bare_seq, bare_arg, bare_pure, bare_atom, bare_term, bare_bind, bare_assertion, bare_operand, bare_place, bare_test, bare_hint, bare_join, bare_kind_step, bare_stmt_step, bare_stmt_kind, bare_stmt, bare_signature, bare_predicate, bare_import, bare_function, bare_module}
+use Rattle.bed_print.proofs.Places.{bare_option, bare_name, bare_var, bare_word, bare_seq, bare_arg, bare_pure, bare_atom, bare_term, bare_bind, bare_assertion, bare_operand, bare_place, bare_test, bare_hint, bare_join, bare_kind_step, bare_stmt_step, bare_stmt_kind, bare_stmt, bare_signature, bare_predicate, bare_import, bare_function, bare_module}
+use Rattle.bed_print.proofs.BareRolls.{bare_word_layer, bare_word-roll, bare_seq_layer, bare_seq-roll, bare_kind_layer, bare_below, bare_kind-roll}
 use Rattle.bed_print.proofs.StmtTrees.{bare_stmt-of}
 
 -- a test accepts trees that are equal, places aside
@@ -116,26 +114,10 @@ vars var.Hole _ e = absurd (cc)
 
 -- ---- words and sequences
 
-abbrev bare_word_layer : Word-F Word → Word-F Word
-bare_word_layer (Word-F.Number n) = Word-F.Number n
-bare_word_layer (Word-F.Var v) = Word-F.Var (bare_var v)
-bare_word_layer (Word-F.Label x) = Word-F.Label (bare_name x)
-bare_word_layer (Word-F.Add a b) = Word-F.Add a b
-bare_word_layer (Word-F.Sub a b) = Word-F.Sub a b
-bare_word_layer (Word-F.Times n a) = Word-F.Times n a
-
-word_rolled : (x : Word-F Word) → bare_word_step x ≡ roll-Word (bare_word_layer x)
-word_rolled (Word-F.Number n) = sym (rolls-Number n)
-word_rolled (Word-F.Var v) = sym (rolls-Var (bare_var v))
-word_rolled (Word-F.Label x) = sym (rolls-Label (bare_name x))
-word_rolled (Word-F.Add a b) = sym (rolls-Add a b)
-word_rolled (Word-F.Sub a b) = sym (rolls-Sub a b)
-word_rolled (Word-F.Times n a) = sym (rolls-Times n a)
-
 -- what setting places to 0 makes of a word's parts
 word_parts : (x : Word-F Word) → out-Word (bare_word (roll-Word x)) ≡ bare_word_layer (map-Word Word Word bare_word x)
 word_parts x =
-    ap out-Word (fold-roll-Word Word bare_word_step x ∙ word_rolled (map-Word Word Word bare_word x))
+    ap out-Word (bare_word-roll x)
     ∙ out-roll-Word (bare_word_layer (map-Word Word Word bare_word x))
 
 abbrev SameWord : Word → Type 0
@@ -177,21 +159,9 @@ word_step y = ind-Word (WordsAgree (roll-Word (map-Word _ _ (λ p. p.0) y))) (λ
 words : Accepts bare_word same_word
 words = ind-Word SameWord (λ x y is. subst (λ (z : Word-F Word). SameWord (roll-Word z)) is (word_step y))
 
-abbrev bare_seq_layer : Seq-F Seq → Seq-F Seq
-bare_seq_layer (Seq-F.Var v) = Seq-F.Var (bare_var v)
-bare_seq_layer Seq-F.Nil = Seq-F.Nil
-bare_seq_layer (Seq-F.Cons a s) = Seq-F.Cons (bare_word a) s
-bare_seq_layer (Seq-F.App s t) = Seq-F.App s t
-
-seq_rolled : (x : Seq-F Seq) → bare_seq_step x ≡ roll-Seq (bare_seq_layer x)
-seq_rolled (Seq-F.Var v) = sym (seq_rolls-Var (bare_var v))
-seq_rolled Seq-F.Nil = sym rolls-Nil
-seq_rolled (Seq-F.Cons a s) = sym (rolls-Cons (bare_word a) s)
-seq_rolled (Seq-F.App s t) = sym (rolls-App s t)
-
 seq_parts : (x : Seq-F Seq) → out-Seq (bare_seq (roll-Seq x)) ≡ bare_seq_layer (map-Seq Seq Seq bare_seq x)
 seq_parts x =
-    ap out-Seq (fold-roll-Seq Seq bare_seq_step x ∙ seq_rolled (map-Seq Seq Seq bare_seq x))
+    ap out-Seq (bare_seq-roll x)
     ∙ out-roll-Seq (bare_seq_layer (map-Seq Seq Seq bare_seq x))
 
 abbrev SameSeq : Seq → Type 0
@@ -411,36 +381,6 @@ hints (hint.Claim x0) _ e = absurd (cc)
 hints (hint.When x0) _ e = absurd (cc)
 hints (hint.Give x0 x1) _ e = absurd (cc)
 
-abbrev bare_kind_layer : StmtKind-F StmtKind Stmt → StmtKind-F StmtKind Stmt
-bare_kind_layer (StmtKind-F.Assign x0 x1) = StmtKind-F.Assign (bare_name x0) (bare_operand x1)
-bare_kind_layer (StmtKind-F.Compute x0 x1 x2 x3) = StmtKind-F.Compute (bare_name x0) x1 (bare_operand x2) (bare_operand x3)
-bare_kind_layer (StmtKind-F.Load x0 x1) = StmtKind-F.Load (bare_name x0) (bare_place x1)
-bare_kind_layer (StmtKind-F.LoadByte x0 x1) = StmtKind-F.LoadByte (bare_name x0) (bare_place x1)
-bare_kind_layer (StmtKind-F.Store x0 x1) = StmtKind-F.Store (bare_place x0) (bare_operand x1)
-bare_kind_layer (StmtKind-F.StoreByte x0 x1) = StmtKind-F.StoreByte (bare_place x0) (bare_operand x1)
-bare_kind_layer (StmtKind-F.Call x0 x1 x2 x3 x4 x5 x6) = StmtKind-F.Call 0 (bare_name x1) (bare_operand x2) (bare_option bare_name x3) (map bare_operand x4) (map bare_hint x5) (bare_assertion x6)
-bare_kind_layer (StmtKind-F.If x0 x1 x2 x3) = StmtKind-F.If (bare_test x0) x1 x2 (bare_option bare_join x3)
-bare_kind_layer (StmtKind-F.While x0 x1 x2 x3) = StmtKind-F.While (bare_test x0) 0 (bare_assertion x2) x3
-bare_kind_layer (StmtKind-F.Return x0) = StmtKind-F.Return (bare_operand x0)
-bare_kind_layer (StmtKind-F.Hint x0) = StmtKind-F.Hint (bare_hint x0)
-bare_kind_layer (StmtKind-F.Find x0 x1 x2 x3 x4 x5 x6 x7 x8) = StmtKind-F.Find (bare_name x0) (bare_name x1) (bare_operand x2) (bare_name x3) (bare_seq x4) (bare_name x5) (bare_name x6) (bare_assertion x7) x8
-bare_kind_layer (StmtKind-F.Walk x0 x1 x2 x3 x4 x5 x6 x7) = StmtKind-F.Walk (bare_name x0) (bare_name x1) (bare_name x2) (bare_seq x3) (bare_name x4) (bare_name x5) (bare_assertion x6) x7
-
-kind_rolled : (x : StmtKind-F StmtKind Stmt) → bare_kind_step x ≡ roll-StmtKind (bare_kind_layer x)
-kind_rolled (StmtKind-F.Assign x0 x1) = sym (rolls-Assign (bare_name x0) (bare_operand x1))
-kind_rolled (StmtKind-F.Compute x0 x1 x2 x3) = sym (rolls-Compute (bare_name x0) x1 (bare_operand x2) (bare_operand x3))
-kind_rolled (StmtKind-F.Load x0 x1) = sym (rolls-Load (bare_name x0) (bare_place x1))
-kind_rolled (StmtKind-F.LoadByte x0 x1) = sym (rolls-LoadByte (bare_name x0) (bare_place x1))
-kind_rolled (StmtKind-F.Store x0 x1) = sym (rolls-Store (bare_place x0) (bare_operand x1))
-kind_rolled (StmtKind-F.StoreByte x0 x1) = sym (rolls-StoreByte (bare_place x0) (bare_operand x1))
-kind_rolled (StmtKind-F.Call x0 x1 x2 x3 x4 x5 x6) = sym (rolls-Call 0 (bare_name x1) (bare_operand x2) (bare_option bare_name x3) (map bare_operand x4) (map bare_hint x5) (bare_assertion x6))
-kind_rolled (StmtKind-F.If x0 x1 x2 x3) = sym (rolls-If (bare_test x0) x1 x2 (bare_option bare_join x3))
-kind_rolled (StmtKind-F.While x0 x1 x2 x3) = sym (rolls-While (bare_test x0) 0 (bare_assertion x2) x3)
-kind_rolled (StmtKind-F.Return x0) = sym (rolls-Return (bare_operand x0))
-kind_rolled (StmtKind-F.Hint x0) = sym (rolls-Hint (bare_hint x0))
-kind_rolled (StmtKind-F.Find x0 x1 x2 x3 x4 x5 x6 x7 x8) = sym (rolls-Find (bare_name x0) (bare_name x1) (bare_operand x2) (bare_name x3) (bare_seq x4) (bare_name x5) (bare_name x6) (bare_assertion x7) x8)
-kind_rolled (StmtKind-F.Walk x0 x1 x2 x3 x4 x5 x6 x7) = sym (rolls-Walk (bare_name x0) (bare_name x1) (bare_name x2) (bare_seq x3) (bare_name x4) (bare_name x5) (bare_assertion x6) x7)
-
 -- two layers that are equal have equal parts
 abbrev Layer : Type 0
 Layer = StmtKind-F StmtKind Stmt
@@ -503,12 +443,9 @@ tag (StmtKind-F.Walk x0 x1 x2 x3 x4 x5 x6 x7) = 12
 apart : {A : Type 0} → ◌≡◌ {A = Bool} true false → A
 apart e = absurd (cc)
 
-abbrev bare_below : StmtKind-F StmtKind Stmt → StmtKind-F StmtKind Stmt
-bare_below = map-StmtKind StmtKind Stmt StmtKind Stmt bare_stmt_kind bare_stmt
-
 kind_parts : (x : StmtKind-F StmtKind Stmt) → out-StmtKind (bare_stmt_kind (roll-StmtKind x)) ≡ bare_kind_layer (bare_below x)
 kind_parts x =
-    ap out-StmtKind (fold-roll-StmtKind StmtKind Stmt bare_kind_step bare_stmt_step x ∙ kind_rolled (bare_below x))
+    ap out-StmtKind (bare_kind-roll x)
     ∙ out-roll-StmtKind (bare_kind_layer (bare_below x))
 
 abbrev test_below : StmtKind-F StmtKind Stmt → StmtKind-F (StmtKind → Bool) (Stmt → Bool)
