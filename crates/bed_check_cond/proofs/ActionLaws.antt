@@ -12,7 +12,8 @@ use Rattle.bed_lang.specs.declared.module.Place.{Place}
 use Rattle.bed_lang.specs.declared.module.Test.{Test}
 use Rattle.bed_lang.specs.declared.module.Action.{Action}
 use Rattle.bed_lang.specs.declared.module.Action.TheVariants as action
-use Rattle.bed_lang.specs.Values.{wrap, Values, Fresh, set_word, value}
+use Rattle.bed_lang.specs.Numbers.{wrap}
+use Rattle.bed_lang.specs.Values.{Values, Fresh, set_word, value}
 use Rattle.bed_lang.proofs.ValueLaws.{value-Number, value-small}
 use Rattle.bed_sat.specs.Assertions.{World, meaning}
 use Rattle.bed_sat.specs.Valid.{op_result, operand_value, place_value, set_local, Does, After, GoalHolds}

@@ -9,7 +9,8 @@ use Rattle.bed_lang.specs.declared.logic.Arg.{Arg}
 use Rattle.bed_lang.specs.declared.condition.Cond.{Cond}
 use Rattle.bed_lang.specs.Keys.{bare_name}
 use Rattle.bed_lang.specs.Lookups.{function_signature, count_of_params}
-use Rattle.bed_lang.specs.Values.{wrap, Values, Named, Old, Fresh, set_word}
+use Rattle.bed_lang.specs.Numbers.{wrap}
+use Rattle.bed_lang.specs.Values.{Values, Named, Old, Fresh, set_word}
 use Rattle.bed_lang.specs.Instances.{values_with}
 use Rattle.bed_lang.proofs.ValueLaws.{value-Var}
 use Rattle.bed_sat.specs.Assertions.{World, meaning}

@@ -16,7 +16,8 @@ use Rattle.bed_lang.specs.declared.module.Operand.{Operand}
 use Rattle.bed_lang.specs.declared.module.Operand.TheVariants as operand
 use Rattle.bed_lang.specs.declared.condition.Goal.{Goal}
 use Rattle.bed_lang.specs.declared.condition.Goal.TheVariants as goal
-use Rattle.bed_lang.specs.Values.{wrap, Values, Named, Answer, Fresh, set_word, value}
+use Rattle.bed_lang.specs.Numbers.{wrap}
+use Rattle.bed_lang.specs.Values.{Values, Named, Answer, Fresh, set_word, value}
 use Rattle.bed_lang.specs.Instances.{Instance, values_with, terms_with}
 use Rattle.bed_lang.specs.Lookups.{signature_named, label_signature, named_signature}
 use Rattle.bed_sat.specs.Parts.{Joins}

@@ -7,12 +7,13 @@ use Rattle.bed_machine.proofs.WordLaws.{some_same}
 use Rattle.bed_lang.specs.declared.word.Word.{Word, Number, Add, Sub}
 use Rattle.bed_lang.specs.declared.module.Op.{Op}
 use Rattle.bed_lang.specs.declared.module.Op.TheVariants as op
-use Rattle.bed_lang.specs.Values.{wrap, Values, value}
+use Rattle.bed_lang.specs.Numbers.{wrap}
+use Rattle.bed_lang.specs.Values.{Values, value}
 use Rattle.bed_lang.specs.Forms.{word_form, times_form}
 use Rattle.bed_lang.proofs.ValueLaws.{value-Number, value-Add, value-Sub}
 use Rattle.bed_forms.proofs.FormValues.{times-form_value, form-value}
 use Rattle.bed_sat.specs.Valid.{op_result}
-use Rattle.bed_deriv.specs.Same.{is_constant}
+use Rattle.bed_lang.specs.SameFacts.{is_constant}
 use Rattle.bed_deriv.specs.Rebuilt.{form_word, rebuilt_word}
 use Rattle.bed_deriv.specs.Steps.{product_of, bits_of, computed}
 use Rattle.bed_check_pure.proofs.SameLaws.{constant_word-value}

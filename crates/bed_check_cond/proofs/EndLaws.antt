@@ -14,7 +14,8 @@ use Rattle.bed_lang.specs.declared.condition.Goal.{Goal}
 use Rattle.bed_lang.specs.declared.condition.Goal.TheVariants as goal
 use Rattle.bed_lang.specs.declared.module.Action.{Action}
 use Rattle.bed_lang.specs.declared.module.Operand.{Operand}
-use Rattle.bed_lang.specs.Values.{wrap, Values, Old, Answer, set_word, value}
+use Rattle.bed_lang.specs.Numbers.{wrap}
+use Rattle.bed_lang.specs.Values.{Values, Old, Answer, set_word, value}
 use Rattle.bed_lang.specs.Instances.{Instance, values_with, terms_with}
 use Rattle.bed_lang.specs.Lookups.{label_signature, function_signature}
 use Rattle.bed_sat.specs.Parts.{Joins}
@@ -29,7 +30,7 @@ use Rattle.bed_deriv.specs.Arguments.{to_values}
 use Rattle.bed_deriv.specs.Fresh.{known_assertion, unfresh_goal, IsKnownState, AreUnfresh}
 use Rattle.bed_deriv.specs.Matches.{count_of_goals, count_of_atoms, chosen, all_different, atoms_left, match_goals}
 use Rattle.bed_deriv.specs.Opening.{replacing, with_answer, local_values}
-use Rattle.bed_deriv.specs.Same.{is_none}
+use Rattle.bed_lang.specs.SameFacts.{is_none}
 use Rattle.bed_deriv.specs.Checks.{first_failure}
 use Rattle.bed_deriv.specs.Steps.{Rest, Onward, operand_term, names_with, old_word, End, as_answer, returned, met, end_of, finish, onward_of, onward_states}
 use Rattle.bed_check_pure.specs.States.{AreTrueFacts, AreTrueAtoms}

@@ -26,7 +26,7 @@ use Rattle.bed_deriv.specs.declared.derivation.Rule.{Rule}
 use Rattle.bed_deriv.specs.declared.derivation.Rule.TheVariants as rule
 use Rattle.bed_deriv.specs.declared.state.SymState.{SymState}
 use Rattle.bed_deriv.specs.declared.state.Remainder.{Remainder}
-use Rattle.bed_deriv.specs.Same.{negation}
+use Rattle.bed_lang.specs.SameFacts.{negation}
 use Rattle.bed_deriv.specs.Arguments.{numbered}
 use Rattle.bed_deriv.specs.Checks.{Step, first_failure, left_states, remainder, with_fact}
 use Rattle.bed_deriv.specs.Derives.{heap_rule}

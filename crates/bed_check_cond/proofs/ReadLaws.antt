@@ -10,7 +10,8 @@ use Rattle.bed_lang.specs.declared.module.Operand.TheVariants as operand
 use Rattle.bed_lang.specs.declared.module.Place.{Place}
 use Rattle.bed_lang.specs.declared.module.Rel.{Rel}
 use Rattle.bed_lang.specs.declared.module.Rel.TheVariants as rel
-use Rattle.bed_lang.specs.Values.{wrap, Values, Variable, Named, same_variable, value}
+use Rattle.bed_lang.specs.Numbers.{wrap}
+use Rattle.bed_lang.specs.Values.{Values, Variable, Named, same_variable, value}
 use Rattle.bed_lang.proofs.ValueLaws.{value-Number, value-Label, value-Add}
 use Rattle.bed_sat.specs.Valid.{AreRelated, operand_value, place_value, set_local}
 use Rattle.bed_sat.specs.Facts.{IsTrueFact}

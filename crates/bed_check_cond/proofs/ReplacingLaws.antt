@@ -9,7 +9,8 @@ use Rattle.bed_lang.specs.declared.word.Seq.{Var as SeqVar}
 use Rattle.bed_lang.specs.declared.logic.Arg.{Arg}
 use Rattle.bed_lang.specs.declared.logic.Arg.TheVariants as arg
 use Rattle.bed_lang.specs.Keys.{bare_name}
-use Rattle.bed_lang.specs.Values.{wrap, Values, Variable, Named, Old, Answer, Fresh, Hole, variable, same_variable, set_word, value, list_value}
+use Rattle.bed_lang.specs.Numbers.{wrap}
+use Rattle.bed_lang.specs.Values.{Values, Variable, Named, Old, Answer, Fresh, Hole, variable, same_variable, set_word, value, list_value}
 use Rattle.bed_lang.specs.Instances.{Instance, values_with}
 use Rattle.bed_lang.proofs.ValueLaws.{value-Var, value-small, list_value-Var}
 use Rattle.bed_sat.specs.Frames.{set_words}

@@ -7,7 +7,8 @@ use Rattle.bed_lang.specs.declared.logic.Arg.{Arg}
 use Rattle.bed_lang.specs.declared.logic.Arg.TheVariants as arg
 use Rattle.bed_lang.specs.declared.logic.Term.{Term}
 use Rattle.bed_lang.specs.declared.logic.Term.TheVariants as term
-use Rattle.bed_lang.specs.Values.{wrap, Values, Variable, Named, Old, Answer, Fresh, Hole, same_variable, set_word, set_list, value, list_value}
+use Rattle.bed_lang.specs.Numbers.{wrap}
+use Rattle.bed_lang.specs.Values.{Values, Variable, Named, Old, Answer, Fresh, Hole, same_variable, set_word, set_list, value, list_value}
 use Rattle.bed_sat.specs.Assertions.{Meaning, IsTrueTerm, AreTrueTerms, World}
 use Rattle.bed_deriv.specs.Fresh.{every, known_term}
 use Rattle.bed_check_heap.specs.Sound.{AgreeBelow}

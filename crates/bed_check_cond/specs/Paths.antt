@@ -8,7 +8,8 @@ use Rattle.bed_lang.specs.declared.logic.Pure.{Pure}
 use Rattle.bed_lang.specs.declared.module.Signature.{Signature}
 use Rattle.bed_lang.specs.declared.condition.Decls.{Decls}
 use Rattle.bed_lang.specs.declared.condition.Cond.{Cond}
-use Rattle.bed_lang.specs.Values.{wrap, Values, Variable, Named, Fresh, same_variable, value}
+use Rattle.bed_lang.specs.Numbers.{wrap}
+use Rattle.bed_lang.specs.Values.{Values, Variable, Named, Fresh, same_variable, value}
 use Rattle.bed_lang.specs.Lookups.{function_signature}
 use Rattle.bed_sat.specs.Assertions.{World}
 use Rattle.bed_sat.specs.Valid.{After, GoalHolds, LabelsFit, IsValid}

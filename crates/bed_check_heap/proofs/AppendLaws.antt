@@ -1,6 +1,7 @@
 -- Two list segments in a row are joined into one.
 use Rattle.std.proofs.Common.{◌≡◌, ℕ, ◌+◌, true, IsTrue, Option, Some, None, List, [], ◌∷◌, map, codes, inl, refl, sym, ◌∙◌, ap, subst, subst₂}
-use Rattle.bed_machine.specs.Memory.{Memory, wrap}
+use Rattle.bed_lang.specs.Numbers.{wrap}
+use Rattle.bed_machine.specs.Memory.{Memory}
 use Rattle.bed_machine.proofs.WordLaws.{some_same}
 use Rattle.bed_lang.specs.declared.word.Name.{Name}
 use Rattle.bed_lang.specs.declared.word.Var.TheVariants as var

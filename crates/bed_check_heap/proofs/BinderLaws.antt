@@ -10,7 +10,8 @@ use Rattle.bed_lang.specs.declared.word.Word.{Word}
 use Rattle.bed_lang.specs.declared.word.Seq.{Seq, Var as SeqVar}
 use Rattle.bed_lang.specs.declared.logic.Arg.{Arg}
 use Rattle.bed_lang.specs.declared.logic.Bind.{Bind}
-use Rattle.bed_lang.specs.Values.{wrap, Values, Variable, Named, Fresh, set_word, set_list, value, list_value}
+use Rattle.bed_lang.specs.Numbers.{wrap}
+use Rattle.bed_lang.specs.Values.{Values, Variable, Named, Fresh, set_word, set_list, value, list_value}
 use Rattle.bed_lang.proofs.ValueLaws.{list_value-Var}
 use Rattle.bed_sat.specs.Assertions.{ArgValue, WordValue, ListValue, set_params, ForSomeValue, ForSomeValues}
 use Rattle.bed_sat.proofs.InstanceLaws.{wrap_twice}

@@ -5,7 +5,8 @@ use Rattle.bed_machine.specs.Memory.{Memory, empty}
 use Rattle.bed_lang.specs.declared.word.Word.{Number}
 use Rattle.bed_lang.specs.declared.logic.Pure.{Pure}
 use Rattle.bed_lang.specs.declared.condition.Decls.{Decls}
-use Rattle.bed_lang.specs.Values.{wrap, Values, value}
+use Rattle.bed_lang.specs.Numbers.{wrap}
+use Rattle.bed_lang.specs.Values.{Values, value}
 use Rattle.bed_lang.proofs.ValueLaws.{value-Number}
 use Rattle.bed_sat.specs.Parts.{AreDisjoint, union}
 use Rattle.bed_sat.specs.Cells.{IsByte}

@@ -7,7 +7,8 @@ use Rattle.bed_lang.specs.declared.word.Word.{Word, Add, Sub, Times}
 use Rattle.bed_lang.specs.declared.logic.Pure.{Pure}
 use Rattle.bed_lang.specs.declared.logic.Atom.{Atom}
 use Rattle.bed_lang.specs.declared.logic.Atom.TheVariants as atom
-use Rattle.bed_lang.specs.Values.{wrap, Values, value}
+use Rattle.bed_lang.specs.Numbers.{wrap}
+use Rattle.bed_lang.specs.Values.{Values, value}
 use Rattle.bed_lang.proofs.ValueLaws.{value-Number, value-Add, value-Sub, value-Times, value-small}
 use Rattle.bed_sat.specs.Cells.{IsBlock}
 use Rattle.bed_sat.specs.Facts.{IsTrueFact}

@@ -1,7 +1,8 @@
 -- Parts of memory in another shape: a block as two, two blocks as one, a cell as four bytes, four bytes as a cell.
 use Rattle.std.proofs.Common.{◌≡◌, ◌≢◌, ℕ, ◌+◌, ◌-◌, ◌*◌, ◌<◌, ◌≤◌, Bool, true, false, nat_eq, if◌then◌else◌, Option, Some, None, List, [], ◌∷◌, ◌++◌, length, take, drop, inl, inr, refl, sym, ◌∙◌, ap, subst, arith, take-append-drop, length-drop, length-take-le, length-append}
 use Rattle.std.proofs.lemmas.Bool.{eqb-true, eqb-false, eq-eqb, ne_eqb}
-use Rattle.bed_machine.specs.Memory.{Memory, empty, wrap}
+use Rattle.bed_lang.specs.Numbers.{wrap}
+use Rattle.bed_machine.specs.Memory.{Memory, empty}
 use Rattle.bed_machine.proofs.WordLaws.{four_bytes, word_of_four}
 use Rattle.bed_sat.specs.Parts.{Meet, Joins}
 use Rattle.bed_sat.specs.Cells.{IsCell, IsByte, AreWordsAt, IsBlock}

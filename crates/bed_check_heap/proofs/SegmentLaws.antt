@@ -5,7 +5,8 @@ use Rattle.std.specs.Prelude.{slice_get}
 use Rattle.std.specs.Cmp.Lexicographic.{pointwise}
 use Rattle.std.proofs.lemmas.Bool.{and_parts}
 use Rattle.std.proofs.lemmas.List.{map-append}
-use Rattle.bed_machine.specs.Memory.{Memory, empty, wrap}
+use Rattle.bed_lang.specs.Numbers.{wrap}
+use Rattle.bed_machine.specs.Memory.{Memory, empty}
 use Rattle.bed_machine.proofs.WordLaws.{some_same}
 use Rattle.bed_lang.specs.declared.word.Var.TheVariants as var
 use Rattle.bed_lang.specs.declared.word.Word.{Number, Add}

@@ -6,7 +6,8 @@ use Rattle.bed_machine.proofs.WordLaws.{some_same}
 use Rattle.bed_lang.specs.declared.word.Word.{Word, Number, Add, Times}
 use Rattle.bed_lang.specs.declared.logic.Atom.{Atom}
 use Rattle.bed_lang.specs.declared.logic.Atom.TheVariants as atom
-use Rattle.bed_lang.specs.Values.{wrap, Values, Fresh, set_word, value}
+use Rattle.bed_lang.specs.Numbers.{wrap}
+use Rattle.bed_lang.specs.Values.{Values, Fresh, set_word, value}
 use Rattle.bed_lang.proofs.ValueLaws.{value-Number, value-Add, value-Times}
 use Rattle.bed_sat.specs.Parts.{Joins}
 use Rattle.bed_sat.specs.Cells.{IsCell, IsByte, IsBlock}

@@ -13,7 +13,8 @@ use Rattle.bed_lang.specs.declared.logic.Atom.{Atom}
 use Rattle.bed_lang.specs.declared.logic.Atom.TheVariants as atom
 use Rattle.bed_lang.specs.declared.logic.Term.{Term}
 use Rattle.bed_lang.specs.declared.logic.Term.TheVariants as term
-use Rattle.bed_lang.specs.Values.{wrap, Values, Variable, variable, same_variable, set_word, set_list, value, value_step, list_value, list_value_step}
+use Rattle.bed_lang.specs.Numbers.{wrap}
+use Rattle.bed_lang.specs.Values.{Values, Variable, variable, same_variable, set_word, set_list, value, value_step, list_value, list_value_step}
 use Rattle.bed_sat.specs.Cells.{IsCell, IsByte, IsBlock}
 use Rattle.bed_sat.specs.Facts.{IsTrueFact}
 use Rattle.bed_sat.specs.Assertions.{WordValue, ListValue, Meaning, arg_value, arg_values, IsTrueAtom, IsTrueTerm, AreTrueTerms}

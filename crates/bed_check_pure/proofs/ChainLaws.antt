@@ -6,7 +6,8 @@ use Rattle.bed_lang.specs.declared.form.Form.{Form}
 use Rattle.bed_lang.specs.declared.word.Word.{Word, Number}
 use Rattle.bed_lang.specs.declared.logic.Pure.{Pure}
 use Rattle.bed_lang.specs.declared.logic.Pure.TheVariants.{Equal, Less, AtMost}
-use Rattle.bed_lang.specs.Values.{wrap, Values, value}
+use Rattle.bed_lang.specs.Numbers.{wrap}
+use Rattle.bed_lang.specs.Values.{Values, value}
 use Rattle.bed_lang.specs.Forms.{word_form, same_form}
 use Rattle.bed_lang.specs.Coefficients.{form_value}
 use Rattle.bed_lang.proofs.ValueLaws.{value-Number, value-Add, value-Sub, value-small}
@@ -22,7 +23,7 @@ use Rattle.bed_deriv.specs.declared.derivation.DArg.TheVariants as given
 use Rattle.bed_deriv.specs.declared.derivation.Edge.{Edge}
 use Rattle.bed_deriv.specs.declared.derivation.Edge.TheVariants.{F, G, X, Y, P, Q, R, S, K, Z, H}
 use Rattle.bed_deriv.specs.declared.state.Sequent.{Sequent}
-use Rattle.bed_deriv.specs.Same.{is_constant}
+use Rattle.bed_lang.specs.SameFacts.{is_constant}
 use Rattle.bed_deriv.specs.Checks.{Goals, Needs, Leaves}
 use Rattle.bed_deriv.specs.Chains.{Leg, leg, one_more, one_less, forth, back, constant_above_0, up_by, down_by, exact_forth, exact_back, from_one_more, to_one_more, to_one_less, from_one_less, of_fact, edge, legs, fact_start, goal_start, chain_start, proves, closes, chain}
 use Rattle.bed_check_pure.specs.States.{StateHolds}

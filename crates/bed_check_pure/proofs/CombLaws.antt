@@ -8,7 +8,8 @@ use Rattle.bed_lang.specs.declared.word.Word.TheOpen.{Word-F}
 use Rattle.bed_lang.specs.declared.word.Word.TheVariants.{rolls-Number, rolls-Add, rolls-Times}
 use Rattle.bed_lang.specs.declared.logic.Pure.{Pure}
 use Rattle.bed_lang.specs.declared.logic.Pure.TheVariants.{Equal}
-use Rattle.bed_lang.specs.Values.{wrap, Values, value}
+use Rattle.bed_lang.specs.Numbers.{wrap}
+use Rattle.bed_lang.specs.Values.{Values, value}
 use Rattle.bed_lang.specs.Forms.{add_forms, times_form, form_step, word_form}
 use Rattle.bed_lang.specs.Coefficients.{form_value}
 use Rattle.bed_lang.proofs.ValueLaws.{value-Number, value-Add, value-Sub, value-Times, value-small}

@@ -10,7 +10,8 @@ use Rattle.bed_lang.specs.declared.form.Key.TheVariants as key
 use Rattle.bed_lang.specs.declared.form.Form.{Form}
 use Rattle.bed_lang.specs.declared.logic.Pure.{Pure}
 use Rattle.bed_lang.specs.declared.logic.Pure.TheVariants.{Code}
-use Rattle.bed_lang.specs.Values.{wrap, Values, value}
+use Rattle.bed_lang.specs.Numbers.{wrap}
+use Rattle.bed_lang.specs.Values.{Values, value}
 use Rattle.bed_lang.specs.Forms.{Part, word_form}
 use Rattle.bed_lang.specs.Coefficients.{key_value, parts_value, form_value}
 use Rattle.bed_lang.specs.Lookups.{label_signature}

@@ -7,7 +7,8 @@ use Rattle.bed_lang.specs.declared.form.Piece.{Piece}
 use Rattle.bed_lang.specs.declared.form.Piece.TheVariants.{Element, Sequence}
 use Rattle.bed_lang.specs.declared.logic.Pure.{Pure}
 use Rattle.bed_lang.specs.declared.logic.Pure.TheVariants.{Member, NonMember}
-use Rattle.bed_lang.specs.Values.{wrap, Values, variable, value, list_value}
+use Rattle.bed_lang.specs.Numbers.{wrap}
+use Rattle.bed_lang.specs.Values.{Values, variable, value, list_value}
 use Rattle.bed_lang.specs.Forms.{seq_form}
 use Rattle.bed_lang.specs.Coefficients.{form_value, pieces_value}
 use Rattle.bed_lang.proofs.ValueLaws.{list_value-Var}

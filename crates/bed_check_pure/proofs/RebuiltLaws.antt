@@ -9,7 +9,8 @@ use Rattle.bed_lang.specs.declared.form.Key.TheVariants as key
 use Rattle.bed_lang.specs.declared.form.Form.{Form}
 use Rattle.bed_lang.specs.declared.form.Piece.{Piece}
 use Rattle.bed_lang.specs.declared.form.Piece.TheVariants.{Element, Sequence}
-use Rattle.bed_lang.specs.Values.{wrap, Values, value, list_value}
+use Rattle.bed_lang.specs.Numbers.{wrap}
+use Rattle.bed_lang.specs.Values.{Values, value, list_value}
 use Rattle.bed_lang.specs.Forms.{Part}
 use Rattle.bed_lang.specs.Coefficients.{key_value, parts_value, form_value, pieces_value}
 use Rattle.bed_lang.proofs.ValueLaws.{value-Number, value-Var, value-Label, value-Add, value-Times, value-small, list_value-Var, list_value-Nil, list_value-Cons, list_value-App}

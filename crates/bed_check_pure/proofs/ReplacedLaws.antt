@@ -13,7 +13,8 @@ use Rattle.bed_lang.specs.declared.logic.Pure.{Pure}
 use Rattle.bed_lang.specs.declared.logic.Pure.TheVariants as pure
 use Rattle.bed_lang.specs.declared.logic.Atom.{Atom}
 use Rattle.bed_lang.specs.declared.logic.Atom.TheVariants as atom
-use Rattle.bed_lang.specs.Values.{wrap, Values, Variable, variable, value, list_value}
+use Rattle.bed_lang.specs.Numbers.{wrap}
+use Rattle.bed_lang.specs.Values.{Values, Variable, variable, value, list_value}
 use Rattle.bed_lang.specs.Instances.{Instance, word_with, word_with_step, seq_with, seq_with_step, arg_with, args_with, pure_with, atom_with}
 use Rattle.bed_lang.specs.Forms.{word_form, seq_form}
 use Rattle.bed_lang.proofs.ValueLaws.{value-Number, value-Label, value-Add, value-Sub, value-Times, list_value-Nil, list_value-Cons, list_value-App}

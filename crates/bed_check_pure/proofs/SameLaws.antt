@@ -17,7 +17,7 @@ use Rattle.bed_lang.specs.Differences.{difference}
 use Rattle.bed_forms.proofs.SameForms.{same_form-value, same_pieces-value}
 use Rattle.bed_forms.proofs.DifferenceLaws.{constant-value, constant_difference-unequal, same_difference-equal, no_pieces-value}
 use Rattle.bed_sat.specs.Facts.{IsTrueFact}
-use Rattle.bed_deriv.specs.Same.{same_words, same_seqs, same_facts, negation, is_none, is_constant, is_number, at_most_by_norm, by_norm}
+use Rattle.bed_lang.specs.SameFacts.{same_words, same_seqs, same_facts, negation, is_none, is_constant, is_number, at_most_by_norm, by_norm}
 
 pub empty_if_none : {A : Type 0} (xs : List A) → is_none xs ≡ true → xs ≡ []
 empty_if_none [] h = refl

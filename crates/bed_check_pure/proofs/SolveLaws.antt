@@ -18,7 +18,8 @@ use Rattle.bed_lang.specs.declared.form.Piece.{Piece}
 use Rattle.bed_lang.specs.declared.form.Piece.TheVariants.{Sequence}
 use Rattle.bed_lang.specs.declared.logic.Pure.{Pure}
 use Rattle.bed_lang.specs.declared.logic.Pure.TheVariants.{Equal, Same}
-use Rattle.bed_lang.specs.Values.{wrap, Values, Variable, Named, Old, Answer, Fresh, Hole, variable, same_variable, value, list_value}
+use Rattle.bed_lang.specs.Numbers.{wrap}
+use Rattle.bed_lang.specs.Values.{Values, Variable, Named, Old, Answer, Fresh, Hole, variable, same_variable, value, list_value}
 use Rattle.bed_lang.specs.Keys.{same_key, key_text, key_order}
 use Rattle.bed_lang.specs.Forms.{Part, times_form, seq_form}
 use Rattle.bed_lang.specs.Coefficients.{key_value, parts_value, form_value, pieces_value, coefficient_in, ComesBefore, IsOrdered}

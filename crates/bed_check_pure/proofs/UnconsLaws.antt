@@ -7,7 +7,8 @@ use Rattle.bed_lang.specs.declared.form.Piece.{Piece}
 use Rattle.bed_lang.specs.declared.form.Piece.TheVariants.{Element, Sequence}
 use Rattle.bed_lang.specs.declared.logic.Pure.{Pure}
 use Rattle.bed_lang.specs.declared.logic.Pure.TheVariants.{Same}
-use Rattle.bed_lang.specs.Values.{wrap, Values, variable}
+use Rattle.bed_lang.specs.Numbers.{wrap}
+use Rattle.bed_lang.specs.Values.{Values, variable}
 use Rattle.bed_lang.specs.Forms.{seq_form}
 use Rattle.bed_lang.specs.Coefficients.{pieces_value}
 use Rattle.bed_forms.proofs.FormLaws.{pieces-value}
@@ -15,7 +16,7 @@ use Rattle.bed_sat.specs.Facts.{IsTrueFact}
 use Rattle.bed_sat.specs.Assertions.{World}
 use Rattle.bed_deriv.specs.declared.derivation.DArg.{DArg}
 use Rattle.bed_deriv.specs.declared.state.Sequent.{Sequent}
-use Rattle.bed_deriv.specs.Same.{is_none}
+use Rattle.bed_lang.specs.SameFacts.{is_none}
 use Rattle.bed_deriv.specs.Checks.{Goals, with_fact}
 use Rattle.bed_deriv.specs.ListRules.{sides, heads_and_tails, uncons, has_element, is_void, void}
 use Rattle.bed_check_pure.proofs.SameLaws.{empty_if_none}

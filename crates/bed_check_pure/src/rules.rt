@@ -1,7 +1,7 @@
 //! The rules for a fact, one by one: each tests its premises in their order.
 ghost use Rattle.std.specs.Option.{option_copied};
 ghost use Rattle.std.specs.Prelude.{◌≡◌, ◌==◌, not, ◌∷◌, [], Some, Ok, IfOk};
-ghost use Rattle.bed_deriv.specs.Same.{same_facts};
+ghost use Rattle.bed_lang.specs.SameFacts.{same_facts};
 ghost use Rattle.bed_deriv.specs.Checks.{first_failure, when, sequent, with_fact};
 ghost use Rattle.bed_deriv.specs.PureRules.{hyp, norm, order, order_goals, one_order, cut, carry, carry_goals, split, split_goals, contradiction, opposite_goal, distinct, distinct_from, apart, bound, bound_of, bound_goals, address};
 ghost use Rattle.bed_check_pure.specs.Faults.{AnswersRule};

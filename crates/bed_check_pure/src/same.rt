@@ -3,7 +3,7 @@ ghost use Rattle.std.specs.Prelude.{◌≡◌, ◌&&◌, IfOk};
 ghost use Rattle.std.specs.Cmp.Lexicographic.{pointwise};
 ghost use Rattle.bed_lang.specs.Forms.{same_piece};
 ghost use Rattle.bed_lang.specs.Differences.{same_difference};
-ghost use Rattle.bed_deriv.specs.Same.{same_words, same_seqs, same_facts, is_number, less_by_norm, at_most_by_norm, by_norm};
+ghost use Rattle.bed_lang.specs.SameFacts.{same_words, same_seqs, same_facts, is_number, less_by_norm, at_most_by_norm, by_norm};
 
 use bed_forms::{difference, seq_form, word_form};
 use bed_lang::{Form, Piece, Pure, Seq, Word};

@@ -5,7 +5,7 @@ use Rattle.bed_lang.specs.declared.form.Form.{Form}
 use Rattle.bed_lang.specs.declared.word.Word.{Word, Number, Add, Sub}
 use Rattle.bed_lang.specs.declared.logic.Pure.{Pure}
 use Rattle.bed_lang.specs.declared.logic.Pure.TheVariants.{Equal, Unequal, Less, AtMost, Same, Member, NonMember, Code}
-use Rattle.bed_lang.specs.Values.{wrap}
+use Rattle.bed_lang.specs.Numbers.{wrap}
 use Rattle.bed_lang.specs.Forms.{word_form, same_form}
 use Rattle.bed_lang.specs.Differences.{difference}
 use Rattle.bed_deriv.specs.declared.derivation.DArg.{DArg}
@@ -13,7 +13,7 @@ use Rattle.bed_deriv.specs.declared.derivation.DArg.TheVariants as given
 use Rattle.bed_deriv.specs.declared.derivation.Edge.{Edge}
 use Rattle.bed_deriv.specs.declared.derivation.Edge.TheVariants.{F, G, X, Y, P, Q, R, S, K, Z, H}
 use Rattle.bed_deriv.specs.declared.state.SymState.{SymState}
-use Rattle.bed_deriv.specs.Same.{is_constant}
+use Rattle.bed_lang.specs.SameFacts.{is_constant}
 use Rattle.bed_deriv.specs.Fresh.{known_word}
 use Rattle.bed_deriv.specs.Arguments.{numbered}
 use Rattle.bed_deriv.specs.Checks.{Goals, Needs, Given, Fails, Leaves}

@@ -21,7 +21,7 @@ use Rattle.bed_lang.specs.Instances.{terms_with}
 use Rattle.bed_lang.specs.Lookups.{predicate_named}
 use Rattle.bed_deriv.specs.declared.derivation.DArg.{DArg}
 use Rattle.bed_deriv.specs.declared.state.SymState.{SymState}
-use Rattle.bed_deriv.specs.Same.{negation}
+use Rattle.bed_lang.specs.SameFacts.{negation}
 use Rattle.bed_deriv.specs.Arguments.{numbered, at_number, number_at, name_at, word_at, fact_given, to_values, counts}
 use Rattle.bed_deriv.specs.Opening.{alone, opened}
 use Rattle.bed_deriv.specs.Matches.{count_of_goals, count_of_atoms, chosen, all_different, atoms_left, match_goals}

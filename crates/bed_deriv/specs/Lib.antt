@@ -1,4 +1,3 @@
-pub mod Same
 pub mod Fresh
 pub mod Arguments
 pub mod Rebuilt

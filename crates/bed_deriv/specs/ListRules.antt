@@ -10,7 +10,7 @@ use Rattle.bed_lang.specs.Forms.{seq_form}
 use Rattle.bed_deriv.specs.declared.derivation.DArg.{DArg}
 use Rattle.bed_deriv.specs.declared.state.SymState.{SymState}
 use Rattle.bed_deriv.specs.declared.state.Sequent.{Sequent}
-use Rattle.bed_deriv.specs.Same.{same_facts, is_none}
+use Rattle.bed_lang.specs.SameFacts.{same_facts, is_none}
 use Rattle.bed_deriv.specs.Arguments.{numbered, number_at, fact_at, counts}
 use Rattle.bed_deriv.specs.Rebuilt.{form_word, pieces_seq}
 use Rattle.bed_deriv.specs.Checks.{Goals, Needs, Given, Leaves, with_fact, sequent}

@@ -15,7 +15,8 @@ use Rattle.bed_lang.specs.declared.logic.Pure.TheVariants.{Equal, Unequal, Less,
 use Rattle.bed_lang.specs.declared.logic.Atom.{Atom}
 use Rattle.bed_lang.specs.declared.logic.Atom.TheVariants.{Cell, Byte, Block, Pred}
 use Rattle.bed_lang.specs.declared.condition.Decls.{Decls}
-use Rattle.bed_lang.specs.Values.{wrap, variable, same_variable}
+use Rattle.bed_lang.specs.Numbers.{wrap}
+use Rattle.bed_lang.specs.Values.{variable, same_variable}
 use Rattle.bed_lang.specs.Same.{same_name, same_var}
 use Rattle.bed_lang.specs.Keys.{same_key}
 use Rattle.bed_lang.specs.Forms.{Part, word_form, seq_form, add_forms, times_form, same_form}
@@ -25,7 +26,7 @@ use Rattle.bed_lang.specs.Differences.{difference}
 use Rattle.bed_lang.specs.Lookups.{label_signature}
 use Rattle.bed_deriv.specs.declared.derivation.DArg.{DArg}
 use Rattle.bed_deriv.specs.declared.state.SymState.{SymState}
-use Rattle.bed_deriv.specs.Same.{same_facts, negation, by_norm}
+use Rattle.bed_lang.specs.SameFacts.{same_facts, negation, by_norm}
 use Rattle.bed_deriv.specs.Arguments.{numbered, number_at, word_at, variable_at, fact_given, fact_at, atom_at, to_number, at_number, counts}
 use Rattle.bed_deriv.specs.Rebuilt.{form_word, pieces_seq, rebuilt_fact, rebuilt_atom}
 use Rattle.bed_deriv.specs.Opening.{occurrence}

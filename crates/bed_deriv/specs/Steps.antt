@@ -32,7 +32,7 @@ use Rattle.bed_lang.specs.Instances.{Instance, terms_with}
 use Rattle.bed_lang.specs.Lookups.{signature_named, label_signature, named_signature, function_signature}
 use Rattle.bed_deriv.specs.declared.derivation.DArg.{DArg}
 use Rattle.bed_deriv.specs.declared.state.SymState.{SymState}
-use Rattle.bed_deriv.specs.Same.{is_constant, is_none}
+use Rattle.bed_lang.specs.SameFacts.{is_constant, is_none}
 use Rattle.bed_deriv.specs.Arguments.{numbered, number_at, atom_at, to_values, counts}
 use Rattle.bed_deriv.specs.Rebuilt.{form_word, rebuilt_word}
 use Rattle.bed_deriv.specs.Opening.{replacing, with_answer, local_values, opened}

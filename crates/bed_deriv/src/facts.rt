@@ -1,6 +1,6 @@
 //! Facts and their negations.
 ghost use Rattle.std.specs.Prelude.{◌≡◌, IfOk};
-ghost use Rattle.bed_deriv.specs.Same.{negation};
+ghost use Rattle.bed_lang.specs.SameFacts.{negation};
 
 use bed_lang::Pure;
 use std::alloc::{AllocError, Global};

@@ -100,6 +100,7 @@ fn seq_instead(alloc: Global, values: &[(Name, Arg)], v: &Var) -> Result<Seq, Al
 ///
 /// # Errors
 /// `AllocError` for want of memory.
+#[cycle(words)]
 pub fn replace_word(alloc: Global, values: &[(Name, Arg)], w: &Word) -> Result<Word, AllocError>
     ensures { IfOk result (λ r. r ≡ word_with (replacing values.now) w.now) }
 {
@@ -108,20 +109,28 @@ pub fn replace_word(alloc: Global, values: &[(Name, Arg)], w: &Word) -> Result<W
         Word::Var(v) => word_instead(alloc, values, v),
         Word::Label(name) => Ok(Word::Label(name.copy(alloc)?)),
         Word::Add(a, b) => {
-            let a = replace_word(alloc, values, a.get())?;
-            let b = replace_word(alloc, values, b.get())?;
-            Ok(Word::Add(Box::new(alloc, a)?, Box::new(alloc, b)?))
+            let a = replace_part(alloc, values, a)?;
+            let b = replace_part(alloc, values, b)?;
+            Ok(Word::Add(a, b))
         }
         Word::Sub(a, b) => {
-            let a = replace_word(alloc, values, a.get())?;
-            let b = replace_word(alloc, values, b.get())?;
-            Ok(Word::Sub(Box::new(alloc, a)?, Box::new(alloc, b)?))
+            let a = replace_part(alloc, values, a)?;
+            let b = replace_part(alloc, values, b)?;
+            Ok(Word::Sub(a, b))
         }
-        Word::Times(n, a) => {
-            let a = replace_word(alloc, values, a.get())?;
-            Ok(Word::Times(*n, Box::new(alloc, a)?))
-        }
+        Word::Times(n, a) => Ok(Word::Times(*n, replace_part(alloc, values, a)?)),
     }
+}
+
+#[cycle(words)]
+fn replace_part(
+    alloc: Global,
+    values: &[(Name, Arg)],
+    w: &Box<Word>,
+) -> Result<Box<Word>, AllocError>
+    ensures { IfOk result (λ r. r ≡ word_with (replacing values.now) w.now) }
+{
+    Box::new(alloc, replace_word(alloc, values, w.get())?)
 }
 
 /// The same for a sequence.
@@ -171,6 +180,168 @@ fn replace_args(
     Ok(out)
 }
 
+fn replace_words(
+    alloc: Global,
+    values: &[(Name, Arg)],
+    a: &Word,
+    b: &Word,
+) -> Result<(Word, Word), AllocError>
+    ensures { IfOk result (λ r. r ≡ (word_with (replacing values.now) a.now, word_with (replacing values.now) b.now)) }
+{
+    match replace_word(alloc, values, a) {
+        Err(e) => Err(e),
+        Ok(a) => match replace_word(alloc, values, b) {
+            Err(e) => Err(e),
+            Ok(b) => Ok((a, b)),
+        },
+    }
+}
+
+fn replace_seqs(
+    alloc: Global,
+    values: &[(Name, Arg)],
+    a: &Seq,
+    b: &Seq,
+) -> Result<(Seq, Seq), AllocError>
+    ensures { IfOk result (λ r. r ≡ (seq_with (replacing values.now) a.now, seq_with (replacing values.now) b.now)) }
+{
+    match replace_seq(alloc, values, a) {
+        Err(e) => Err(e),
+        Ok(a) => match replace_seq(alloc, values, b) {
+            Err(e) => Err(e),
+            Ok(b) => Ok((a, b)),
+        },
+    }
+}
+
+fn replace_member(
+    alloc: Global,
+    values: &[(Name, Arg)],
+    a: &Word,
+    b: &Seq,
+) -> Result<(Word, Seq), AllocError>
+    ensures { IfOk result (λ r. r ≡ (word_with (replacing values.now) a.now, seq_with (replacing values.now) b.now)) }
+{
+    match replace_word(alloc, values, a) {
+        Err(e) => Err(e),
+        Ok(a) => match replace_seq(alloc, values, b) {
+            Err(e) => Err(e),
+            Ok(b) => Ok((a, b)),
+        },
+    }
+}
+
+fn replace_equal_fact(
+    alloc: Global,
+    values: &[(Name, Arg)],
+    a: &Word,
+    b: &Word,
+) -> Result<Pure, AllocError>
+    ensures { IfOk result (λ r. r ≡ pure_with (replacing values.now) (Pure.Equal a.now b.now)) }
+{
+    match replace_words(alloc, values, a, b) {
+        Err(e) => Err(e),
+        Ok((a, b)) => Ok(Pure::Equal(a, b)),
+    }
+}
+
+fn replace_unequal_fact(
+    alloc: Global,
+    values: &[(Name, Arg)],
+    a: &Word,
+    b: &Word,
+) -> Result<Pure, AllocError>
+    ensures { IfOk result (λ r. r ≡ pure_with (replacing values.now) (Pure.Unequal a.now b.now)) }
+{
+    match replace_words(alloc, values, a, b) {
+        Err(e) => Err(e),
+        Ok((a, b)) => Ok(Pure::Unequal(a, b)),
+    }
+}
+
+fn replace_less_fact(
+    alloc: Global,
+    values: &[(Name, Arg)],
+    a: &Word,
+    b: &Word,
+) -> Result<Pure, AllocError>
+    ensures { IfOk result (λ r. r ≡ pure_with (replacing values.now) (Pure.Less a.now b.now)) }
+{
+    match replace_words(alloc, values, a, b) {
+        Err(e) => Err(e),
+        Ok((a, b)) => Ok(Pure::Less(a, b)),
+    }
+}
+
+fn replace_at_most_fact(
+    alloc: Global,
+    values: &[(Name, Arg)],
+    a: &Word,
+    b: &Word,
+) -> Result<Pure, AllocError>
+    ensures { IfOk result (λ r. r ≡ pure_with (replacing values.now) (Pure.AtMost a.now b.now)) }
+{
+    match replace_words(alloc, values, a, b) {
+        Err(e) => Err(e),
+        Ok((a, b)) => Ok(Pure::AtMost(a, b)),
+    }
+}
+
+fn replace_same_fact(
+    alloc: Global,
+    values: &[(Name, Arg)],
+    a: &Seq,
+    b: &Seq,
+) -> Result<Pure, AllocError>
+    ensures { IfOk result (λ r. r ≡ pure_with (replacing values.now) (Pure.Same a.now b.now)) }
+{
+    match replace_seqs(alloc, values, a, b) {
+        Err(e) => Err(e),
+        Ok((a, b)) => Ok(Pure::Same(a, b)),
+    }
+}
+
+fn replace_member_fact(
+    alloc: Global,
+    values: &[(Name, Arg)],
+    a: &Word,
+    b: &Seq,
+) -> Result<Pure, AllocError>
+    ensures { IfOk result (λ r. r ≡ pure_with (replacing values.now) (Pure.Member a.now b.now)) }
+{
+    match replace_member(alloc, values, a, b) {
+        Err(e) => Err(e),
+        Ok((a, b)) => Ok(Pure::Member(a, b)),
+    }
+}
+
+fn replace_non_member_fact(
+    alloc: Global,
+    values: &[(Name, Arg)],
+    a: &Word,
+    b: &Seq,
+) -> Result<Pure, AllocError>
+    ensures { IfOk result (λ r. r ≡ pure_with (replacing values.now) (Pure.NonMember a.now b.now)) }
+{
+    match replace_member(alloc, values, a, b) {
+        Err(e) => Err(e),
+        Ok((a, b)) => Ok(Pure::NonMember(a, b)),
+    }
+}
+
+fn replace_code_fact(
+    alloc: Global,
+    values: &[(Name, Arg)],
+    a: &Word,
+    name: &Name,
+) -> Result<Pure, AllocError>
+    ensures { IfOk result (λ r. r ≡ pure_with (replacing values.now) (Pure.Code a.now name.now)) }
+{
+    let a = replace_word(alloc, values, a)?;
+    let name = name.copy(alloc)?;
+    Ok(Pure::Code(a, name))
+}
+
 /// The same for a fact.
 ///
 /// # Errors
@@ -179,35 +350,14 @@ pub fn replace_fact(alloc: Global, values: &[(Name, Arg)], p: &Pure) -> Result<P
     ensures { IfOk result (λ r. r ≡ pure_with (replacing values.now) p.now) }
 {
     match p {
-        Pure::Equal(a, b) => Ok(Pure::Equal(
-            replace_word(alloc, values, a)?,
-            replace_word(alloc, values, b)?,
-        )),
-        Pure::Unequal(a, b) => Ok(Pure::Unequal(
-            replace_word(alloc, values, a)?,
-            replace_word(alloc, values, b)?,
-        )),
-        Pure::Less(a, b) => Ok(Pure::Less(
-            replace_word(alloc, values, a)?,
-            replace_word(alloc, values, b)?,
-        )),
-        Pure::AtMost(a, b) => Ok(Pure::AtMost(
-            replace_word(alloc, values, a)?,
-            replace_word(alloc, values, b)?,
-        )),
-        Pure::Same(s, t) => Ok(Pure::Same(
-            replace_seq(alloc, values, s)?,
-            replace_seq(alloc, values, t)?,
-        )),
-        Pure::Member(a, s) => Ok(Pure::Member(
-            replace_word(alloc, values, a)?,
-            replace_seq(alloc, values, s)?,
-        )),
-        Pure::NonMember(a, s) => Ok(Pure::NonMember(
-            replace_word(alloc, values, a)?,
-            replace_seq(alloc, values, s)?,
-        )),
-        Pure::Code(a, name) => Ok(Pure::Code(replace_word(alloc, values, a)?, name.copy(alloc)?)),
+        Pure::Equal(a, b) => replace_equal_fact(alloc, values, a, b),
+        Pure::Unequal(a, b) => replace_unequal_fact(alloc, values, a, b),
+        Pure::Less(a, b) => replace_less_fact(alloc, values, a, b),
+        Pure::AtMost(a, b) => replace_at_most_fact(alloc, values, a, b),
+        Pure::Same(a, b) => replace_same_fact(alloc, values, a, b),
+        Pure::Member(a, b) => replace_member_fact(alloc, values, a, b),
+        Pure::NonMember(a, b) => replace_non_member_fact(alloc, values, a, b),
+        Pure::Code(a, name) => replace_code_fact(alloc, values, a, name),
     }
 }
 

@@ -7,7 +7,8 @@ use Rattle.bed_lang.specs.declared.word.Word.{Word, Sub, fold-roll-Word}
 use Rattle.bed_lang.specs.declared.word.Word.TheOpen.{Word-F}
 use Rattle.bed_lang.specs.declared.word.Word.TheVariants.{rolls-Sub}
 use Rattle.bed_lang.specs.declared.word.Seq.{Seq}
-use Rattle.bed_lang.specs.Values.{wrap, Values, value, list_value}
+use Rattle.bed_lang.specs.Numbers.{wrap}
+use Rattle.bed_lang.specs.Values.{Values, value, list_value}
 use Rattle.bed_lang.specs.declared.form.Form.{Form}
 use Rattle.bed_lang.specs.Forms.{word_form, form_step, seq_form, same_form}
 use Rattle.bed_lang.specs.Coefficients.{parts_value, key_value, form_value, pieces_value}

@@ -5,7 +5,8 @@ use Rattle.std.specs.Str.{bytes_eq}
 use Rattle.bed_lang.specs.declared.word.Word.{Word}
 use Rattle.bed_lang.specs.declared.word.Seq.{Seq, roll-Seq, map-Seq, ind-Seq, fold-roll-Seq}
 use Rattle.bed_lang.specs.declared.word.Seq.TheOpen.{Seq-F}
-use Rattle.bed_lang.specs.Values.{wrap, Values, variable, value, list_value, list_value_step}
+use Rattle.bed_lang.specs.Numbers.{wrap}
+use Rattle.bed_lang.specs.Values.{Values, variable, value, list_value, list_value_step}
 use Rattle.bed_lang.specs.declared.form.Key.{Key}
 use Rattle.bed_lang.specs.declared.form.Key.TheVariants as key
 use Rattle.bed_lang.specs.declared.form.Form.{Form}

@@ -5,7 +5,8 @@ use Rattle.std.specs.declared.cmp.Ordering.TheVariants.{Less, Equal, Greater}
 use Rattle.std.proofs.lemmas.Nat.{mul-mod_first, mul-mod_second}
 use Rattle.bed_lang.specs.declared.word.Word.{Word, roll-Word, map-Word, ind-Word, fold-roll-Word}
 use Rattle.bed_lang.specs.declared.word.Word.TheOpen.{Word-F}
-use Rattle.bed_lang.specs.Values.{wrap, Values, value, value_step}
+use Rattle.bed_lang.specs.Numbers.{wrap}
+use Rattle.bed_lang.specs.Values.{Values, value, value_step}
 use Rattle.bed_lang.specs.declared.form.Key.{Key}
 use Rattle.bed_lang.specs.declared.form.Key.TheVariants as key
 use Rattle.bed_lang.specs.declared.form.Form.{Form}

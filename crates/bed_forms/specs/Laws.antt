@@ -3,7 +3,8 @@ use Rattle.std.specs.Prelude.{◌≡◌, ◌↔◌, ℕ, ◌+◌, ◌-◌, ◌*�
 use Rattle.std.specs.Cmp.Lexicographic.{pointwise}
 use Rattle.bed_lang.specs.declared.word.Word.{Word, Sub}
 use Rattle.bed_lang.specs.declared.word.Seq.{Seq}
-use Rattle.bed_lang.specs.Values.{wrap, Values, value, list_value}
+use Rattle.bed_lang.specs.Numbers.{wrap}
+use Rattle.bed_lang.specs.Values.{Values, value, list_value}
 use Rattle.bed_lang.specs.declared.form.Key.{Key}
 use Rattle.bed_lang.specs.declared.form.Form.{Form}
 use Rattle.bed_lang.specs.declared.form.Piece.{Piece}

@@ -11,7 +11,8 @@ use Rattle.bed_lang.specs.declared.word.Seq.{Seq, Var as SeqVariable, Nil, Cons,
 use Rattle.bed_lang.specs.declared.word.Seq.TheOpen.{Seq-F}
 use Rattle.bed_lang.specs.declared.word.Seq.TheVariants.{rolls-Var as seq_rolls-Var, rolls-Nil, rolls-Cons, rolls-App}
 use Rattle.bed_lang.specs.Same.{same_var}
-use Rattle.bed_lang.specs.Values.{wrap, Values, variable, same_variable, set_word, value, value_step, list_value}
+use Rattle.bed_lang.specs.Numbers.{wrap}
+use Rattle.bed_lang.specs.Values.{Values, variable, same_variable, set_word, value, value_step, list_value}
 use Rattle.bed_lang.specs.Substitution.{replaced, replaced_step, HasValueWith}
 use Rattle.bed_lang.proofs.RollLaws.{value_roll, list_roll}
 

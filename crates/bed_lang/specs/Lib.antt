@@ -1,3 +1,4 @@
+pub mod Numbers
 pub mod Prelude
 pub mod Same
 pub mod Substitution
@@ -7,4 +8,6 @@ pub mod Forms
 pub mod Coefficients
 pub mod Instances
 pub mod Differences
+pub mod SameFacts
 pub mod Lookups
+pub mod Declarations

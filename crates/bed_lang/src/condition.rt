@@ -4,7 +4,7 @@ ghost use Rattle.bed_lang.specs.Same.{same_decls, same_goal, same_placed, same_c
 
 use crate::logic::Assertion;
 use crate::module::{Action, Hint, Operand, Predicate, Signature};
-use crate::tree::{Tree, same_flags};
+use crate::tree::{Tree, both, four, same_flags, three};
 use crate::word::Name;
 use sqlite_items::Items as List;
 use std::alloc::{AllocError, Global};
@@ -87,6 +87,28 @@ impl Decls {
     }
 }
 
+fn copy_call(
+    alloc: Global,
+    target: &Operand,
+    via: &Option<Name>,
+    args: &List<Operand>,
+    into: &Name,
+    after: &Assertion,
+) -> Result<Goal, AllocError>
+    ensures { IfOk result (λ r. r ≡ Goal.Calls target.now via.now args.now into.now after.now) }
+{
+    let heads = three(alloc, target, via, args)?;
+    let (into, after) = both(alloc, into, after)?;
+    let (target, via, args) = heads;
+    Ok(Goal::Calls {
+        target,
+        via,
+        args,
+        into,
+        after,
+    })
+}
+
 impl Goal {
     /// A copy, equal to the original.
     ///
@@ -103,13 +125,7 @@ impl Goal {
                 args,
                 into,
                 after,
-            } => Ok(Goal::Calls {
-                target: target.copy(alloc)?,
-                via: via.copied(alloc)?,
-                args: args.copied(alloc)?,
-                into: into.copy(alloc)?,
-                after: after.copy(alloc)?,
-            }),
+            } => copy_call(alloc, target, via, args, into, after),
             Goal::Returns(a) => Ok(Goal::Returns(a.copy(alloc)?)),
         }
     }
@@ -172,16 +188,20 @@ impl Cond {
     pub fn copy(&self, alloc: Global) -> Result<Cond, AllocError>
         ensures { IfOk result (λ r. r ≡ self.now) }
     {
+        let heads = three(alloc, &self.module, &self.function, &self.locals)?;
+        let rest = four(alloc, &self.start, &self.actions, &self.goal, &self.hints)?;
+        let (module, function, locals) = heads;
+        let ((start, actions), (goal, hints)) = rest;
         Ok(Cond {
-            module: self.module.copy(alloc)?,
-            function: self.function.copy(alloc)?,
+            module,
+            function,
             at: self.at,
-            locals: self.locals.copied(alloc)?,
+            locals,
             entry: self.entry,
-            start: self.start.copy(alloc)?,
-            actions: self.actions.copied(alloc)?,
-            goal: self.goal.copy(alloc)?,
-            hints: self.hints.copied(alloc)?,
+            start,
+            actions,
+            goal,
+            hints,
         })
     }
 
@@ -220,6 +240,18 @@ impl Tree for Cond {
     }
 
     fn same_as(&self, other: &Cond) -> bool {
+        self.same(other)
+    }
+}
+
+impl Tree for Goal {
+    ghost alike = { same_goal };
+
+    fn copied(&self, alloc: Global) -> Result<Goal, AllocError> {
+        self.copy(alloc)
+    }
+
+    fn same_as(&self, other: &Goal) -> bool {
         self.same(other)
     }
 }

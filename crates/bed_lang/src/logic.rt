@@ -2,7 +2,7 @@
 ghost use Rattle.std.specs.Prelude.{◌≡◌, IfOk};
 ghost use Rattle.bed_lang.specs.Same.{same_arg, same_pure, same_atom, same_term, same_bind, same_assertion};
 
-use crate::tree::Tree;
+use crate::tree::{Tree, both};
 use crate::word::{Name, Seq, Sort, Word};
 use sqlite_items::Items as List;
 use std::alloc::{AllocError, Global};
@@ -107,6 +107,78 @@ impl Arg {
     }
 }
 
+fn copy_pure_equal(alloc: Global, a: &Word, b: &Word) -> Result<Pure, AllocError>
+    ensures { IfOk result (λ r. r ≡ Pure.Equal a.now b.now) }
+{
+    match both(alloc, a, b) {
+        Err(e) => Err(e),
+        Ok((a, b)) => Ok(Pure::Equal(a, b)),
+    }
+}
+
+fn copy_pure_unequal(alloc: Global, a: &Word, b: &Word) -> Result<Pure, AllocError>
+    ensures { IfOk result (λ r. r ≡ Pure.Unequal a.now b.now) }
+{
+    match both(alloc, a, b) {
+        Err(e) => Err(e),
+        Ok((a, b)) => Ok(Pure::Unequal(a, b)),
+    }
+}
+
+fn copy_pure_less(alloc: Global, a: &Word, b: &Word) -> Result<Pure, AllocError>
+    ensures { IfOk result (λ r. r ≡ Pure.Less a.now b.now) }
+{
+    match both(alloc, a, b) {
+        Err(e) => Err(e),
+        Ok((a, b)) => Ok(Pure::Less(a, b)),
+    }
+}
+
+fn copy_pure_at_most(alloc: Global, a: &Word, b: &Word) -> Result<Pure, AllocError>
+    ensures { IfOk result (λ r. r ≡ Pure.AtMost a.now b.now) }
+{
+    match both(alloc, a, b) {
+        Err(e) => Err(e),
+        Ok((a, b)) => Ok(Pure::AtMost(a, b)),
+    }
+}
+
+fn copy_pure_same(alloc: Global, a: &Seq, b: &Seq) -> Result<Pure, AllocError>
+    ensures { IfOk result (λ r. r ≡ Pure.Same a.now b.now) }
+{
+    match both(alloc, a, b) {
+        Err(e) => Err(e),
+        Ok((a, b)) => Ok(Pure::Same(a, b)),
+    }
+}
+
+fn copy_pure_member(alloc: Global, a: &Word, b: &Seq) -> Result<Pure, AllocError>
+    ensures { IfOk result (λ r. r ≡ Pure.Member a.now b.now) }
+{
+    match both(alloc, a, b) {
+        Err(e) => Err(e),
+        Ok((a, b)) => Ok(Pure::Member(a, b)),
+    }
+}
+
+fn copy_pure_non_member(alloc: Global, a: &Word, b: &Seq) -> Result<Pure, AllocError>
+    ensures { IfOk result (λ r. r ≡ Pure.NonMember a.now b.now) }
+{
+    match both(alloc, a, b) {
+        Err(e) => Err(e),
+        Ok((a, b)) => Ok(Pure::NonMember(a, b)),
+    }
+}
+
+fn copy_pure_code(alloc: Global, a: &Word, b: &Name) -> Result<Pure, AllocError>
+    ensures { IfOk result (λ r. r ≡ Pure.Code a.now b.now) }
+{
+    match both(alloc, a, b) {
+        Err(e) => Err(e),
+        Ok((a, b)) => Ok(Pure::Code(a, b)),
+    }
+}
+
 impl Pure {
     /// A copy, equal to the original.
     ///
@@ -116,14 +188,14 @@ impl Pure {
         ensures { IfOk result (λ r. r ≡ self.now) }
     {
         match self {
-            Pure::Equal(a, b) => Ok(Pure::Equal(a.copy(alloc)?, b.copy(alloc)?)),
-            Pure::Unequal(a, b) => Ok(Pure::Unequal(a.copy(alloc)?, b.copy(alloc)?)),
-            Pure::Less(a, b) => Ok(Pure::Less(a.copy(alloc)?, b.copy(alloc)?)),
-            Pure::AtMost(a, b) => Ok(Pure::AtMost(a.copy(alloc)?, b.copy(alloc)?)),
-            Pure::Same(a, b) => Ok(Pure::Same(a.copy(alloc)?, b.copy(alloc)?)),
-            Pure::Member(a, b) => Ok(Pure::Member(a.copy(alloc)?, b.copy(alloc)?)),
-            Pure::NonMember(a, b) => Ok(Pure::NonMember(a.copy(alloc)?, b.copy(alloc)?)),
-            Pure::Code(a, b) => Ok(Pure::Code(a.copy(alloc)?, b.copy(alloc)?)),
+            Pure::Equal(a, b) => copy_pure_equal(alloc, a, b),
+            Pure::Unequal(a, b) => copy_pure_unequal(alloc, a, b),
+            Pure::Less(a, b) => copy_pure_less(alloc, a, b),
+            Pure::AtMost(a, b) => copy_pure_at_most(alloc, a, b),
+            Pure::Same(a, b) => copy_pure_same(alloc, a, b),
+            Pure::Member(a, b) => copy_pure_member(alloc, a, b),
+            Pure::NonMember(a, b) => copy_pure_non_member(alloc, a, b),
+            Pure::Code(a, b) => copy_pure_code(alloc, a, b),
         }
     }
 
@@ -154,10 +226,22 @@ impl Atom {
         ensures { IfOk result (λ r. r ≡ self.now) }
     {
         match self {
-            Atom::Cell(a, b) => Ok(Atom::Cell(a.copy(alloc)?, b.copy(alloc)?)),
-            Atom::Byte(a, b) => Ok(Atom::Byte(a.copy(alloc)?, b.copy(alloc)?)),
-            Atom::Block(a, b) => Ok(Atom::Block(a.copy(alloc)?, b.copy(alloc)?)),
-            Atom::Pred(a, b) => Ok(Atom::Pred(a.copy(alloc)?, b.copied(alloc)?)),
+            Atom::Cell(a, b) => {
+                let (a, b) = both(alloc, a, b)?;
+                Ok(Atom::Cell(a, b))
+            }
+            Atom::Byte(a, b) => {
+                let (a, b) = both(alloc, a, b)?;
+                Ok(Atom::Byte(a, b))
+            }
+            Atom::Block(a, b) => {
+                let (a, b) = both(alloc, a, b)?;
+                Ok(Atom::Block(a, b))
+            }
+            Atom::Pred(a, b) => {
+                let (a, b) = both(alloc, a, b)?;
+                Ok(Atom::Pred(a, b))
+            }
         }
     }
 

@@ -4,7 +4,7 @@ ghost use Rattle.bed_lang.specs.Same.{same_operand, same_op, same_rel, same_sign
 
 use crate::logic::{Arg, Assertion, Bind, Pure};
 use crate::statement::{Stmt, copy_body, same_body};
-use crate::tree::{Tree, same_flags};
+use crate::tree::{Tree, both, same_flags, three};
 use crate::word::{Name, Seq, Word};
 use sqlite_items::Items as List;
 use std::alloc::{AllocError, Global};
@@ -232,13 +232,16 @@ impl Signature {
     pub fn copy(&self, alloc: Global) -> Result<Signature, AllocError>
         ensures { IfOk result (λ r. r ≡ self.now) }
     {
+        let heads = three(alloc, &self.name, &self.params, &self.logical)?;
+        let (pre, post) = both(alloc, &self.pre, &self.post)?;
+        let (name, params, logical) = heads;
         Ok(Signature {
-            name: self.name.copy(alloc)?,
-            params: self.params.copied(alloc)?,
+            name,
+            params,
             reserve: self.reserve,
-            logical: self.logical.copied(alloc)?,
-            pre: self.pre.copy(alloc)?,
-            post: self.post.copy(alloc)?,
+            logical,
+            pre,
+            post,
         })
     }
 
@@ -407,6 +410,51 @@ impl Test {
     }
 }
 
+fn copy_hint_unfold(alloc: Global, a: &Name, b: &Option<Word>) -> Result<Hint, AllocError>
+    ensures { IfOk result (λ r. r ≡ Hint.Unfold a.now b.now) }
+{
+    match both(alloc, a, b) {
+        Err(e) => Err(e),
+        Ok((a, b)) => Ok(Hint::Unfold(a, b)),
+    }
+}
+
+fn copy_hint_divide(alloc: Global, a: &Word, b: &Word) -> Result<Hint, AllocError>
+    ensures { IfOk result (λ r. r ≡ Hint.Divide a.now b.now) }
+{
+    match both(alloc, a, b) {
+        Err(e) => Err(e),
+        Ok((a, b)) => Ok(Hint::Divide(a, b)),
+    }
+}
+
+fn copy_hint_merge(alloc: Global, a: &Word, b: &Word) -> Result<Hint, AllocError>
+    ensures { IfOk result (λ r. r ≡ Hint.Merge a.now b.now) }
+{
+    match both(alloc, a, b) {
+        Err(e) => Err(e),
+        Ok((a, b)) => Ok(Hint::Merge(a, b)),
+    }
+}
+
+fn copy_hint_give(alloc: Global, a: &Name, b: &Arg) -> Result<Hint, AllocError>
+    ensures { IfOk result (λ r. r ≡ Hint.Give a.now b.now) }
+{
+    match both(alloc, a, b) {
+        Err(e) => Err(e),
+        Ok((a, b)) => Ok(Hint::Give(a, b)),
+    }
+}
+
+fn copy_hint_fold(alloc: Global, a: &Name, b: &List<Arg>, c: u32) -> Result<Hint, AllocError>
+    ensures { IfOk result (λ r. r ≡ Hint.Fold a.now b.now c) }
+{
+    match both(alloc, a, b) {
+        Err(e) => Err(e),
+        Ok((a, b)) => Ok(Hint::Fold(a, b, c)),
+    }
+}
+
 impl Hint {
     /// A copy, equal to the original.
     ///
@@ -416,11 +464,11 @@ impl Hint {
         ensures { IfOk result (λ r. r ≡ self.now) }
     {
         match self {
-            Hint::Unfold(a, b) => Ok(Hint::Unfold(a.copy(alloc)?, b.copied(alloc)?)),
-            Hint::Fold(a, b, c) => Ok(Hint::Fold(a.copy(alloc)?, b.copied(alloc)?, *c)),
+            Hint::Unfold(a, b) => copy_hint_unfold(alloc, a, b),
+            Hint::Fold(a, b, c) => copy_hint_fold(alloc, a, b, *c),
             Hint::Append(a) => Ok(Hint::Append(a.copy(alloc)?)),
-            Hint::Divide(a, b) => Ok(Hint::Divide(a.copy(alloc)?, b.copy(alloc)?)),
-            Hint::Merge(a, b) => Ok(Hint::Merge(a.copy(alloc)?, b.copy(alloc)?)),
+            Hint::Divide(a, b) => copy_hint_divide(alloc, a, b),
+            Hint::Merge(a, b) => copy_hint_merge(alloc, a, b),
             Hint::Bytes(a) => Ok(Hint::Bytes(a.copy(alloc)?)),
             Hint::Word(a) => Ok(Hint::Word(a.copy(alloc)?)),
             Hint::Cell(a) => Ok(Hint::Cell(a.copy(alloc)?)),
@@ -428,7 +476,7 @@ impl Hint {
             Hint::Drop(a) => Ok(Hint::Drop(a.copy(alloc)?)),
             Hint::Claim(a) => Ok(Hint::Claim(a.copy(alloc)?)),
             Hint::When(a) => Ok(Hint::When(a.copy(alloc)?)),
-            Hint::Give(a, b) => Ok(Hint::Give(a.copy(alloc)?, b.copy(alloc)?)),
+            Hint::Give(a, b) => copy_hint_give(alloc, a, b),
         }
     }
 
@@ -477,6 +525,66 @@ impl Join {
     }
 }
 
+fn copy_action_assign(alloc: Global, a: &Name, b: &Operand) -> Result<Action, AllocError>
+    ensures { IfOk result (λ r. r ≡ Action.Assign a.now b.now) }
+{
+    match both(alloc, a, b) {
+        Err(e) => Err(e),
+        Ok((a, b)) => Ok(Action::Assign(a, b)),
+    }
+}
+
+fn copy_action_load(alloc: Global, a: &Name, b: &Place) -> Result<Action, AllocError>
+    ensures { IfOk result (λ r. r ≡ Action.Load a.now b.now) }
+{
+    match both(alloc, a, b) {
+        Err(e) => Err(e),
+        Ok((a, b)) => Ok(Action::Load(a, b)),
+    }
+}
+
+fn copy_action_load_byte(alloc: Global, a: &Name, b: &Place) -> Result<Action, AllocError>
+    ensures { IfOk result (λ r. r ≡ Action.LoadByte a.now b.now) }
+{
+    match both(alloc, a, b) {
+        Err(e) => Err(e),
+        Ok((a, b)) => Ok(Action::LoadByte(a, b)),
+    }
+}
+
+fn copy_action_store(alloc: Global, a: &Place, b: &Operand) -> Result<Action, AllocError>
+    ensures { IfOk result (λ r. r ≡ Action.Store a.now b.now) }
+{
+    match both(alloc, a, b) {
+        Err(e) => Err(e),
+        Ok((a, b)) => Ok(Action::Store(a, b)),
+    }
+}
+
+fn copy_action_store_byte(alloc: Global, a: &Place, b: &Operand) -> Result<Action, AllocError>
+    ensures { IfOk result (λ r. r ≡ Action.StoreByte a.now b.now) }
+{
+    match both(alloc, a, b) {
+        Err(e) => Err(e),
+        Ok((a, b)) => Ok(Action::StoreByte(a, b)),
+    }
+}
+
+fn copy_action_compute(
+    alloc: Global,
+    x: &Name,
+    op: Op,
+    a: &Operand,
+    b: &Operand,
+) -> Result<Action, AllocError>
+    ensures { IfOk result (λ r. r ≡ Action.Compute x.now op a.now b.now) }
+{
+    match three(alloc, x, a, b) {
+        Err(e) => Err(e),
+        Ok((x, a, b)) => Ok(Action::Compute(x, op, a, b)),
+    }
+}
+
 impl Action {
     /// A copy, equal to the original.
     ///
@@ -486,17 +594,12 @@ impl Action {
         ensures { IfOk result (λ r. r ≡ self.now) }
     {
         match self {
-            Action::Assign(a, b) => Ok(Action::Assign(a.copy(alloc)?, b.copy(alloc)?)),
-            Action::Compute(a, b, c, d) => Ok(Action::Compute(
-                a.copy(alloc)?,
-                *b,
-                c.copy(alloc)?,
-                d.copy(alloc)?,
-            )),
-            Action::Load(a, b) => Ok(Action::Load(a.copy(alloc)?, b.copy(alloc)?)),
-            Action::LoadByte(a, b) => Ok(Action::LoadByte(a.copy(alloc)?, b.copy(alloc)?)),
-            Action::Store(a, b) => Ok(Action::Store(a.copy(alloc)?, b.copy(alloc)?)),
-            Action::StoreByte(a, b) => Ok(Action::StoreByte(a.copy(alloc)?, b.copy(alloc)?)),
+            Action::Assign(a, b) => copy_action_assign(alloc, a, b),
+            Action::Compute(a, b, c, d) => copy_action_compute(alloc, a, *b, c, d),
+            Action::Load(a, b) => copy_action_load(alloc, a, b),
+            Action::LoadByte(a, b) => copy_action_load_byte(alloc, a, b),
+            Action::Store(a, b) => copy_action_store(alloc, a, b),
+            Action::StoreByte(a, b) => copy_action_store_byte(alloc, a, b),
             Action::Assume(a) => Ok(Action::Assume(a.copy(alloc)?)),
         }
     }
@@ -613,6 +716,30 @@ impl Tree for Action {
     }
 
     fn same_as(&self, other: &Action) -> bool {
+        self.same(other)
+    }
+}
+
+impl Tree for Place {
+    ghost alike = { same_place };
+
+    fn copied(&self, alloc: Global) -> Result<Place, AllocError> {
+        self.copy(alloc)
+    }
+
+    fn same_as(&self, other: &Place) -> bool {
+        self.same(other)
+    }
+}
+
+impl Tree for Test {
+    ghost alike = { same_test };
+
+    fn copied(&self, alloc: Global) -> Result<Test, AllocError> {
+        self.copy(alloc)
+    }
+
+    fn same_as(&self, other: &Test) -> bool {
         self.same(other)
     }
 }

@@ -4,7 +4,7 @@ ghost use Rattle.bed_lang.specs.Same.{same_kind, same_stmt, accepts_all, same_ca
 
 use crate::logic::Assertion;
 use crate::module::{Hint, Join, Op, Operand, Place, Test};
-use crate::tree::Tree;
+use crate::tree::{Tree, both, four, three};
 use crate::word::{Name, Seq};
 use sqlite_items::Items as List;
 use std::alloc::{AllocError, Global};
@@ -156,15 +156,78 @@ fn copy_call(
 ) -> Result<StmtKind, AllocError>
     ensures { IfOk result (λ r. r ≡ StmtKind.Call place into.now target.now via.now args.now hints.now after.now) }
 {
+    let heads = three(alloc, into, target, via)?;
+    let (args, hints, after) = three(alloc, args, hints, after)?;
+    let (into, target, via) = heads;
     Ok(StmtKind::Call {
         place,
-        into: into.copy(alloc)?,
-        target: target.copy(alloc)?,
-        via: via.copied(alloc)?,
-        args: args.copied(alloc)?,
-        hints: hints.copied(alloc)?,
-        after: after.copy(alloc)?,
+        into,
+        target,
+        via,
+        args,
+        hints,
+        after,
     })
+}
+
+fn copy_kind_assign(alloc: Global, a: &Name, b: &Operand) -> Result<StmtKind, AllocError>
+    ensures { IfOk result (λ r. r ≡ StmtKind.Assign a.now b.now) }
+{
+    match both(alloc, a, b) {
+        Err(e) => Err(e),
+        Ok((a, b)) => Ok(StmtKind::Assign(a, b)),
+    }
+}
+
+fn copy_kind_load(alloc: Global, a: &Name, b: &Place) -> Result<StmtKind, AllocError>
+    ensures { IfOk result (λ r. r ≡ StmtKind.Load a.now b.now) }
+{
+    match both(alloc, a, b) {
+        Err(e) => Err(e),
+        Ok((a, b)) => Ok(StmtKind::Load(a, b)),
+    }
+}
+
+fn copy_kind_load_byte(alloc: Global, a: &Name, b: &Place) -> Result<StmtKind, AllocError>
+    ensures { IfOk result (λ r. r ≡ StmtKind.LoadByte a.now b.now) }
+{
+    match both(alloc, a, b) {
+        Err(e) => Err(e),
+        Ok((a, b)) => Ok(StmtKind::LoadByte(a, b)),
+    }
+}
+
+fn copy_kind_store(alloc: Global, a: &Place, b: &Operand) -> Result<StmtKind, AllocError>
+    ensures { IfOk result (λ r. r ≡ StmtKind.Store a.now b.now) }
+{
+    match both(alloc, a, b) {
+        Err(e) => Err(e),
+        Ok((a, b)) => Ok(StmtKind::Store(a, b)),
+    }
+}
+
+fn copy_kind_store_byte(alloc: Global, a: &Place, b: &Operand) -> Result<StmtKind, AllocError>
+    ensures { IfOk result (λ r. r ≡ StmtKind.StoreByte a.now b.now) }
+{
+    match both(alloc, a, b) {
+        Err(e) => Err(e),
+        Ok((a, b)) => Ok(StmtKind::StoreByte(a, b)),
+    }
+}
+
+fn copy_kind_compute(
+    alloc: Global,
+    x: &Name,
+    op: Op,
+    a: &Operand,
+    b: &Operand,
+) -> Result<StmtKind, AllocError>
+    ensures { IfOk result (λ r. r ≡ StmtKind.Compute x.now op a.now b.now) }
+{
+    match three(alloc, x, a, b) {
+        Err(e) => Err(e),
+        Ok((x, a, b)) => Ok(StmtKind::Compute(x, op, a, b)),
+    }
 }
 
 impl StmtKind {
@@ -177,14 +240,12 @@ impl StmtKind {
         ensures { IfOk result (λ r. r ≡ self.now) }
     {
         match self {
-            StmtKind::Assign(x, a) => Ok(StmtKind::Assign(x.copy(alloc)?, a.copy(alloc)?)),
-            StmtKind::Compute(x, op, a, b) => {
-                Ok(StmtKind::Compute(x.copy(alloc)?, *op, a.copy(alloc)?, b.copy(alloc)?))
-            }
-            StmtKind::Load(x, p) => Ok(StmtKind::Load(x.copy(alloc)?, p.copy(alloc)?)),
-            StmtKind::LoadByte(x, p) => Ok(StmtKind::LoadByte(x.copy(alloc)?, p.copy(alloc)?)),
-            StmtKind::Store(p, a) => Ok(StmtKind::Store(p.copy(alloc)?, a.copy(alloc)?)),
-            StmtKind::StoreByte(p, a) => Ok(StmtKind::StoreByte(p.copy(alloc)?, a.copy(alloc)?)),
+            StmtKind::Assign(x, a) => copy_kind_assign(alloc, x, a),
+            StmtKind::Compute(x, op, a, b) => copy_kind_compute(alloc, x, *op, a, b),
+            StmtKind::Load(x, p) => copy_kind_load(alloc, x, p),
+            StmtKind::LoadByte(x, p) => copy_kind_load_byte(alloc, x, p),
+            StmtKind::Store(p, a) => copy_kind_store(alloc, p, a),
+            StmtKind::StoreByte(p, a) => copy_kind_store_byte(alloc, p, a),
             StmtKind::Call {
                 place,
                 into,
@@ -421,11 +482,12 @@ fn copy_if(
 ) -> Result<StmtKind, AllocError>
     ensures { IfOk result (λ r. r ≡ StmtKind.If test.now yes no join.now) }
 {
+    let (test, join) = both(alloc, test, join)?;
     Ok(StmtKind::If {
-        test: test.copy(alloc)?,
+        test,
         yes,
         no,
-        join: join.copied(alloc)?,
+        join,
     })
 }
 
@@ -438,10 +500,11 @@ fn copy_while(
 ) -> Result<StmtKind, AllocError>
     ensures { IfOk result (λ r. r ≡ StmtKind.While test.now place invariant.now body) }
 {
+    let (test, invariant) = both(alloc, test, invariant)?;
     Ok(StmtKind::While {
-        test: test.copy(alloc)?,
+        test,
         place,
-        invariant: invariant.copy(alloc)?,
+        invariant,
         body,
     })
 }
@@ -460,15 +523,18 @@ fn copy_find(
 ) -> Result<StmtKind, AllocError>
     ensures { IfOk result (λ r. r ≡ StmtKind.Find node.now value.now key.now list.now seq.now seen.now rest.now keep.now body) }
 {
+    let heads = four(alloc, node, value, key, list)?;
+    let ((seq, seen), (rest, keep)) = four(alloc, seq, seen, rest, keep)?;
+    let ((node, value), (key, list)) = heads;
     Ok(StmtKind::Find {
-        node: node.copy(alloc)?,
-        value: value.copy(alloc)?,
-        key: key.copy(alloc)?,
-        list: list.copy(alloc)?,
-        seq: seq.copy(alloc)?,
-        seen: seen.copy(alloc)?,
-        rest: rest.copy(alloc)?,
-        keep: keep.copy(alloc)?,
+        node,
+        value,
+        key,
+        list,
+        seq,
+        seen,
+        rest,
+        keep,
         body,
     })
 }
@@ -486,14 +552,17 @@ fn copy_walk(
 ) -> Result<StmtKind, AllocError>
     ensures { IfOk result (λ r. r ≡ StmtKind.Walk node.now value.now list.now seq.now seen.now rest.now keep.now body) }
 {
+    let heads = three(alloc, node, value, list)?;
+    let ((seq, seen), (rest, keep)) = four(alloc, seq, seen, rest, keep)?;
+    let (node, value, list) = heads;
     Ok(StmtKind::Walk {
-        node: node.copy(alloc)?,
-        value: value.copy(alloc)?,
-        list: list.copy(alloc)?,
-        seq: seq.copy(alloc)?,
-        seen: seen.copy(alloc)?,
-        rest: rest.copy(alloc)?,
-        keep: keep.copy(alloc)?,
+        node,
+        value,
+        list,
+        seq,
+        seen,
+        rest,
+        keep,
         body,
     })
 }

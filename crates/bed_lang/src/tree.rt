@@ -92,6 +92,62 @@ impl Tree for u32 {
     }
 }
 
+/// Copies of two trees.
+///
+/// # Errors
+/// `AllocError` for want of memory.
+pub(crate) fn both<A: Tree, B: Tree>(alloc: Global, a: &A, b: &B) -> Result<(A, B), AllocError>
+    ensures { IfOk result (λ r. r ≡ (a.now, b.now)) }
+{
+    match a.copied(alloc) {
+        Err(e) => Err(e),
+        Ok(a) => match b.copied(alloc) {
+            Err(e) => Err(e),
+            Ok(b) => Ok((a, b)),
+        },
+    }
+}
+
+/// Copies of three trees.
+///
+/// # Errors
+/// `AllocError` for want of memory.
+pub(crate) fn three<A: Tree, B: Tree, C: Tree>(
+    alloc: Global,
+    a: &A,
+    b: &B,
+    c: &C,
+) -> Result<(A, B, C), AllocError>
+    ensures first { IfOk result (λ r. r.0 ≡ a.now) }
+    ensures second { IfOk result (λ r. r.1 ≡ b.now) }
+    ensures third { IfOk result (λ r. r.2 ≡ c.now) }
+{
+    let (a, b) = both(alloc, a, b)?;
+    let c = c.copied(alloc)?;
+    Ok((a, b, c))
+}
+
+/// Copies of four trees.
+///
+/// # Errors
+/// `AllocError` for want of memory.
+pub(crate) fn four<A: Tree, B: Tree, C: Tree, D: Tree>(
+    alloc: Global,
+    a: &A,
+    b: &B,
+    c: &C,
+    d: &D,
+) -> Result<((A, B), (C, D)), AllocError>
+    ensures first { IfOk result (λ r. r.0.0 ≡ a.now) }
+    ensures second { IfOk result (λ r. r.0.1 ≡ b.now) }
+    ensures third { IfOk result (λ r. r.1.0 ≡ c.now) }
+    ensures fourth { IfOk result (λ r. r.1.1 ≡ d.now) }
+{
+    let front = both(alloc, a, b)?;
+    let back = both(alloc, c, d)?;
+    Ok((front, back))
+}
+
 /// Whether two flags agree.
 pub(crate) fn same_flags(a: bool, b: bool) -> bool
     ensures { result ≡ same_flag a b }

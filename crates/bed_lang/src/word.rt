@@ -234,33 +234,42 @@ pub fn substitute(alloc: Global, w: &Word, v: &Var, by: &Word) -> Result<Word, A
     replace(alloc, w, v, by)
 }
 
+#[cycle(replace)]
 fn replace(alloc: Global, w: &Word, v: &Var, by: &Word) -> Result<Word, AllocError>
     ensures { IfOk result (λ r. r ≡ replaced v.now by.now w.now) }
 {
     match w {
         Word::Number(n) => Ok(Word::Number(*n)),
-        Word::Var(u) => {
-            if u.same(v) {
-                by.copy(alloc)
-            } else {
-                Ok(Word::Var(u.copy(alloc)?))
-            }
-        }
+        Word::Var(u) => replace_var(alloc, u, v, by),
         Word::Label(name) => Ok(Word::Label(name.copy(alloc)?)),
         Word::Add(left, right) => {
-            let left = replace(alloc, left.get(), v, by)?;
-            let right = replace(alloc, right.get(), v, by)?;
-            Ok(Word::Add(Box::new(alloc, left)?, Box::new(alloc, right)?))
+            let left = replace_part(alloc, left, v, by)?;
+            let right = replace_part(alloc, right, v, by)?;
+            Ok(Word::Add(left, right))
         }
         Word::Sub(a, b) => {
-            let a = replace(alloc, a.get(), v, by)?;
-            let b = replace(alloc, b.get(), v, by)?;
-            Ok(Word::Sub(Box::new(alloc, a)?, Box::new(alloc, b)?))
+            let a = replace_part(alloc, a, v, by)?;
+            let b = replace_part(alloc, b, v, by)?;
+            Ok(Word::Sub(a, b))
         }
-        Word::Times(n, a) => {
-            let a = replace(alloc, a.get(), v, by)?;
-            Ok(Word::Times(*n, Box::new(alloc, a)?))
-        }
+        Word::Times(n, a) => Ok(Word::Times(*n, replace_part(alloc, a, v, by)?)),
+    }
+}
+
+#[cycle(replace)]
+fn replace_part(alloc: Global, w: &Box<Word>, v: &Var, by: &Word) -> Result<Box<Word>, AllocError>
+    ensures { IfOk result (λ r. r ≡ replaced v.now by.now w.now) }
+{
+    Box::new(alloc, replace(alloc, w.get(), v, by)?)
+}
+
+fn replace_var(alloc: Global, u: &Var, v: &Var, by: &Word) -> Result<Word, AllocError>
+    ensures { IfOk result (λ r. r ≡ replaced v.now by.now (Word.Var u.now)) }
+{
+    if u.same(v) {
+        by.copy(alloc)
+    } else {
+        Ok(Word::Var(u.copy(alloc)?))
     }
 }
 
@@ -284,6 +293,18 @@ impl Tree for Word {
     }
 
     fn same_as(&self, other: &Word) -> bool {
+        self.same(other)
+    }
+}
+
+impl Tree for Seq {
+    ghost alike = { same_seq };
+
+    fn copied(&self, alloc: Global) -> Result<Seq, AllocError> {
+        self.copy(alloc)
+    }
+
+    fn same_as(&self, other: &Seq) -> bool {
         self.same(other)
     }
 }

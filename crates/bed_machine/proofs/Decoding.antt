@@ -1,7 +1,8 @@
 -- The decoder finds exactly the instructions.
 use Rattle.std.proofs.Common.{◌≡◌, ◌≢◌, ℕ, zero, suc, ◌+◌, ◌-◌, ◌*◌, ◌/◌, ◌%◌, ◌<◌, ◌≤◌, ◌⊎◌, inl, inr, Bool, true, false, not, ◌&&◌, nat_eq, nat_le, nat_lt, if◌then◌else◌, Option, Some, None, Ok, Err, List, [], ◌∷◌, ◌++◌, length, refl, sym, ◌∙◌, ap, subst, append_assoc, length-append, arith}
 use Rattle.std.proofs.lemmas.Bool.Decides.{nat_tests}
-use Rattle.bed_machine.specs.Instructions.{number_of, word_bytes, register_form, memory_form, arith_opcode, branch_opcode, row, IsAllowed, BeginsWith, IsTruncated}
+use Rattle.bed_lang.specs.Numbers.{word_bytes}
+use Rattle.bed_machine.specs.Instructions.{number_of, register_form, memory_form, arith_opcode, branch_opcode, row, IsAllowed, BeginsWith, IsTruncated}
 use Rattle.bed_machine.specs.Decoder.{Decoded, register_of, first_word, on_word, one_byte, two_bytes, with_register, with_memory, with_operand, after_opcode, after_known, after_escape, decoded}
 use Rattle.bed_machine.specs.declared.registers.Reg.{Reg}
 use Rattle.bed_machine.specs.declared.registers.Reg.TheVariants.{Eax, Ecx, Edx, Ebx, Esp, Ebp, Esi, Edi}

@@ -1,7 +1,7 @@
 -- Laws of steps, for the proofs of other crates too.
 use Rattle.std.proofs.Common.{◌≡◌, ℕ, ◌+◌, ◌<◌, Bool, true, false, Option, Some, None, Result, Ok, Err, OnErr, refl, sym, ◌∙◌, ap, ap₂, subst, arith}
 use Rattle.std.specs.Int.Bits.{and_lt, or_lt, xor_lt}
-use Rattle.bed_machine.specs.Memory.{wrap}
+use Rattle.bed_lang.specs.Numbers.{wrap}
 use Rattle.bed_machine.specs.Instructions.{BeginsWith, IsAllowed}
 use Rattle.bed_machine.specs.MachineCode.{MachineCode, IsInCode, bytes_from}
 use Rattle.bed_machine.specs.Machine.{MachineState, AreWords, IsState, register, set_register, result_of, is_taken, on_access, on_branch, effect, outcome, IsStep, Outside, NoInstruction, Makes}

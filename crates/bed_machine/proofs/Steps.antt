@@ -1,6 +1,6 @@
 -- Steps of a program.
 use Rattle.std.proofs.Common.{◌≡◌, ℕ, ◌+◌, ◌↔◌, Result, Ok, Err, List, refl, sym, subst}
-use Rattle.bed_machine.specs.Memory.{wrap}
+use Rattle.bed_lang.specs.Numbers.{wrap}
 use Rattle.bed_machine.specs.Instructions.{BeginsWith}
 use Rattle.bed_machine.specs.Decoder.{Decoded}
 use Rattle.bed_machine.specs.MachineCode.{MachineCode, IsInCode, bytes_from}

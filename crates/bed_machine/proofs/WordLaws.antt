@@ -1,7 +1,8 @@
 -- Laws of bytes and words in memory, for the proofs of other crates too.
 use Rattle.std.proofs.Common.{◌≡◌, ◌≢◌, ℕ, ◌+◌, ◌*◌, ◌/◌, ◌%◌, ◌<◌, ◌≤◌, ◌⊎◌, Bool, true, false, nat_eq, nat_le, if◌then◌else◌, Option, Some, None, inl, inr, refl, sym, ◌∙◌, ap, arith}
 use Rattle.std.proofs.lemmas.Bool.Decides.{nat_tests}
-use Rattle.bed_machine.specs.Memory.{Memory, IsMemory, wrap, word_of, word_at, put_byte, put_word}
+use Rattle.bed_lang.specs.Numbers.{wrap}
+use Rattle.bed_machine.specs.Memory.{Memory, IsMemory, word_of, word_at, put_byte, put_word}
 
 pub wrap_lt : (n : ℕ) → wrap n < 4294967296
 wrap_lt n = omega arith

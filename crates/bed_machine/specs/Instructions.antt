@@ -4,6 +4,7 @@
 -- register or base of the operand in bits 2 to 0. Mode 3 is a register, and mode 2 the memory at a base
 -- plus a 32-bit displacement.
 use Rattle.std.specs.Prelude.{◌≡◌, ◌≢◌, ℕ, ◌+◌, ◌*◌, ◌/◌, ◌%◌, ◌<◌, true, false, List, [], ◌∷◌, ◌++◌, length}
+use Rattle.bed_lang.specs.Numbers.{word_bytes}
 use Rattle.bed_machine.specs.declared.registers.Reg.{Reg}
 use Rattle.bed_machine.specs.declared.registers.Reg.TheVariants.{Eax, Ecx, Edx, Ebx, Esp, Ebp, Esi, Edi}
 use Rattle.bed_machine.specs.declared.instructions.Rm.{Rm}
@@ -25,10 +26,6 @@ number_of Esp = 4
 number_of Ebp = 5
 number_of Esi = 6
 number_of Edi = 7
-
--- the four bytes of a word, the lowest first
-abbrev pub word_bytes : ℕ → List ℕ
-word_bytes n = (n % 256) ∷ (n / 256 % 256) ∷ (n / 65536 % 256) ∷ (n / 16777216 % 256) ∷ []
 
 -- the byte ModR/M of mode 3
 abbrev pub register_form : ℕ → Reg → ℕ

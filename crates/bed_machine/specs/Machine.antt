@@ -2,7 +2,8 @@
 -- Architectures Software Developer's Manual", volume 2. Flags after arithmetic are left unknown here,
 -- and data accesses see data memory alone.
 use Rattle.std.specs.Prelude.{◌≡◌, ℕ, ◌+◌, ◌-◌, ◌*◌, ◌<◌, Bool, true, false, not, ◌||◌, Option, Some, None, Result, Ok, Err, nat_eq, nat_lt, bit_and, bit_or, bit_xor}
-use Rattle.bed_machine.specs.Memory.{Memory, IsMemory, wrap, word_at, put_byte, put_word}
+use Rattle.bed_lang.specs.Numbers.{wrap}
+use Rattle.bed_machine.specs.Memory.{Memory, IsMemory, word_at, put_byte, put_word}
 use Rattle.bed_machine.specs.MachineCode.{MachineCode, IsInCode, bytes_from}
 use Rattle.bed_machine.specs.Instructions.{BeginsWith}
 use Rattle.bed_machine.specs.declared.registers.Reg.{Reg}

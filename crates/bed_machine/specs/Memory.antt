@@ -13,10 +13,6 @@ empty a = None
 abbrev pub IsMemory : Memory → Type 0
 IsMemory m = (a v : ℕ) → m a ≡ Some v → (a < 4294967296) × (v < 256)
 
--- a number modulo 2^32
-abbrev pub wrap : ℕ → ℕ
-wrap n = n % 4294967296
-
 -- four bytes as a word, the lowest first
 abbrev pub word_of : Option ℕ → Option ℕ → Option ℕ → Option ℕ → Option ℕ
 word_of (Some a) (Some b) (Some c) (Some d) = Some (a + 256 * b + 65536 * c + 16777216 * d)

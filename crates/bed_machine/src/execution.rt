@@ -1,7 +1,7 @@
 //! One instruction at a time.
 
 ghost use Rattle.std.specs.Prelude.{◌≡◌, ◌*◌, OnErr};
-ghost use Rattle.bed_machine.specs.Memory.{wrap};
+ghost use Rattle.bed_lang.specs.Numbers.{wrap};
 ghost use Rattle.bed_machine.specs.Machine.{seen, address_of, compared, effect, on_branch, outcome, IsState, IsStep, is_taken, result_of, with_register, with_result};
 
 use crate::decoder::decode;

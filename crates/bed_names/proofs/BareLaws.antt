@@ -25,7 +25,8 @@ use Rattle.bed_lang.specs.declared.statement.StmtKind.{StmtKind, StmtKind-F, map
 use Rattle.bed_lang.specs.declared.statement.StmtKind.TheVariants.{rolls-Assign, rolls-Compute, rolls-Load, rolls-LoadByte, rolls-Store, rolls-StoreByte, rolls-Call, rolls-If, rolls-While, rolls-Return, rolls-Hint, rolls-Find, rolls-Walk}
 use Rattle.bed_lang.specs.declared.condition.Decls.{Decls}
 use Rattle.bed_names.specs.Bare.{arg_is_resolved, atom_is_resolved, term_is_resolved, assertion_is_resolved, hint_is_resolved, join_is_resolved, kind_test, stmt_test, kind_is_resolved, stmt_is_resolved, signature_is_resolved, predicate_is_resolved, function_is_resolved}
-use Rattle.bed_names.specs.Declarations.{signature_named, predicate_named, sequences, declarations}
+use Rattle.bed_lang.specs.Declarations.{declarations}
+use Rattle.bed_names.specs.Declarations.{signature_named, predicate_named, sequences}
 use Rattle.bed_names.specs.Laws.{NoBareArgumentIsLeft}
 use Rattle.bed_names.specs.Modules.{plain, signature_names, function_visible}
 use Rattle.bed_names.specs.Resolved.{bare_sort, bare_variable, variable_arg, resolved_arg, resolved_args, resolved_atom, resolved_term, resolved_assertion, resolved_hint, resolved_join, resolved_keep, resolved_step, resolved_stmt_step, resolved_kind, resolved_stmt, resolved_signature, resolved_predicate, resolved_function}

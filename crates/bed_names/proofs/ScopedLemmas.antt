@@ -6,7 +6,8 @@ use Rattle.bed_lang.specs.declared.module.Module.{Module}
 use Rattle.bed_lang.specs.declared.module.Signature.{Signature}
 use Rattle.bed_lang.specs.declared.condition.Decls.{Decls}
 use Rattle.bed_names.specs.declared.error.NameError.{NameError}
-use Rattle.bed_names.specs.Declarations.{found, named_signatures, declarations}
+use Rattle.bed_lang.specs.Declarations.{declarations}
+use Rattle.bed_names.specs.Declarations.{found, named_signatures}
 use Rattle.bed_names.specs.Faults.{noted, refusal}
 use Rattle.bed_names.specs.Modules.{name_spaces_faults, items_faults, faults}
 use Rattle.bed_names.specs.Statements.{frame}

@@ -1,4 +1,4 @@
--- What a module declares, and what is found under a name. Names are compared by their bytes; of several declarations of one
+-- What is found under a name. Names are compared by their bytes; of several declarations of one
 -- name the first one counts.
 use Rattle.std.specs.Prelude.{ℕ, Bool, false, ◌||◌, if◌then◌else◌, List, [], ◌∷◌, ◌++◌, map, Option, None, Some, bytes_eq}
 use Rattle.bed_lang.specs.declared.word.Name.{Name}
@@ -7,9 +7,7 @@ use Rattle.bed_lang.specs.declared.word.Sort.TheVariants as sort
 use Rattle.bed_lang.specs.declared.logic.Bind.{Bind}
 use Rattle.bed_lang.specs.declared.module.Signature.{Signature}
 use Rattle.bed_lang.specs.declared.module.Predicate.{Predicate}
-use Rattle.bed_lang.specs.declared.module.Module.{Module}
 use Rattle.bed_lang.specs.declared.condition.Decls.{Decls}
-use Rattle.bed_lang.specs.Prelude.{prelude}
 
 -- the first item under a name
 abbrev pub found : {T : Type 0} → List (List ℕ × T) → List ℕ → Option T
@@ -51,15 +49,3 @@ words xs = map (λ x. record { name = x; sort = sort.Word }) xs
 
 abbrev pub sequences : List Name → List Bind
 sequences xs = map (λ x. record { name = x; sort = sort.Seq }) xs
-
--- imports and functions are one name space, the imports first
-abbrev pub labels_of : Module → List (Name × Name)
-labels_of m = map (λ i. (i.name, i.signature)) m.imports ++ map (λ f. (f.name, f.signature)) m.functions
-
--- the declarations of a module: every module has the prelude's predicates, which count as declared first
-abbrev pub declarations : Module → Decls
-declarations m = record {
-  signatures = m.signatures;
-  predicates = prelude ++ m.predicates;
-  labels = labels_of m;
-}

@@ -21,7 +21,8 @@ use Rattle.bed_lang.specs.declared.condition.Decls.{Decls}
 use Rattle.bed_names.specs.declared.error.NameError.{NameError}
 use Rattle.bed_names.specs.declared.error.NameError.TheVariants.{FallsOff, StackRoom}
 use Rattle.bed_names.specs.Faults.{fault_if, all_faults}
-use Rattle.bed_names.specs.Declarations.{signature_named, words, declarations}
+use Rattle.bed_lang.specs.Declarations.{declarations}
+use Rattle.bed_names.specs.Declarations.{signature_named, words}
 use Rattle.bed_names.specs.Terms.{Visible, twice_faults, bind_names, assertion_faults, signature_name_faults}
 use Rattle.bed_names.specs.Statements.{Surroundings, body_falls, body_faults}
 

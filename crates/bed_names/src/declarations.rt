@@ -2,7 +2,7 @@
 #![tactic(auto, using(std::proofs::lemmas::List::map_more))]
 
 ghost use Rattle.std.specs.Prelude.{◌≡◌, IfOk, map};
-ghost use Rattle.bed_names.specs.Declarations.{declarations as declarations_of, labels_of};
+ghost use Rattle.bed_lang.specs.Declarations.{declarations as declarations_of, labels_of};
 
 use crate::prelude::prelude;
 use bed_lang::{Decls, Function, Import, List, Module, Name, Tree};

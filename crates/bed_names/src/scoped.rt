@@ -1,6 +1,6 @@
 //! Modules that keep the rules of names.
 ghost use Rattle.std.specs.Prelude.{◌≡◌, ◌≢◌, ◌≤◌, None, Some, All, length, OnOk, IfOk, IfErr};
-ghost use Rattle.bed_names.specs.Declarations.{declarations as declarations_of};
+ghost use Rattle.bed_lang.specs.Declarations.{declarations as declarations_of};
 ghost use Rattle.bed_names.specs.Faults.{noted, refusal};
 ghost use Rattle.bed_names.specs.Limits.{KeepsLimits};
 ghost use Rattle.bed_names.specs.Modules.{name_spaces_faults, faults};
@@ -29,7 +29,7 @@ impl Model for Scoped {
     ghost use Rattle.bed_lang.specs.contracts.word.Word as word_contract;
     ghost use Rattle.bed_lang.specs.contracts.word.Seq as seq_contract;
     ghost use Rattle.bed_lang.specs.contracts.statement.Stmt as statement_contract;
-    ghost use Rattle.bed_names.specs.Declarations.{declarations};
+    ghost use Rattle.bed_lang.specs.Declarations.{declarations};
     ghost use Rattle.bed_names.specs.InScope.{InScope};
 
     ghost Value = { InScope };

@@ -11,7 +11,8 @@ use Rattle.bed_lang.specs.declared.module.Module.{Module}
 use Rattle.bed_lang.specs.declared.condition.Decls.{Decls}
 use Rattle.bed_names.specs.declared.error.NameError.TheVariants.{FallsOff, StackRoom}
 use Rattle.bed_names.specs.Faults.{fault_if}
-use Rattle.bed_names.specs.Declarations.{signature_named, words, declarations}
+use Rattle.bed_lang.specs.Declarations.{declarations}
+use Rattle.bed_names.specs.Declarations.{signature_named, words}
 use Rattle.bed_names.specs.Terms.{Visible, bind_names, assertion_faults}
 use Rattle.bed_names.specs.Statements.{Surroundings, body_falls, body_faults}
 use Rattle.bed_names.specs.Modules.{plain, signature_names, signature_faults, predicate_faults, params_of, logical_of, area_of, locals_room_faults, function_visible, inside, faults_under, function_faults, import_faults, name_spaces_faults, items_faults, faults}

@@ -7,7 +7,7 @@ use Rattle.bed_lang.specs.declared.limit.Which.{Which}
 use Rattle.bed_lex.specs.declared.token.Token.{Token}
 use Rattle.bed_lex.specs.declared.token.Kind.{Kind}
 use Rattle.bed_lex.specs.declared.token.Kind.TheVariants as kind
-use Rattle.bed_names.specs.Declarations.{declarations}
+use Rattle.bed_lang.specs.Declarations.{declarations}
 use Rattle.bed_names.specs.Faults.{refusal}
 use Rattle.bed_names.specs.Modules.{faults}
 use Rattle.bed_names.specs.Resolved.{resolved}

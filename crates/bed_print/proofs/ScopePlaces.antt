@@ -9,7 +9,8 @@ use Rattle.bed_lang.specs.declared.module.Function.{Function}
 use Rattle.bed_lang.specs.declared.module.Module.{Module}
 use Rattle.bed_lang.specs.declared.condition.Decls.{Decls}
 use Rattle.bed_lang.specs.Prelude.{prelude, lseg, lst}
-use Rattle.bed_names.specs.Declarations.{signature_named, words, labels_of, declarations}
+use Rattle.bed_lang.specs.Declarations.{labels_of, declarations}
+use Rattle.bed_names.specs.Declarations.{signature_named, words}
 use Rattle.bed_names.specs.Terms.{Visible}
 use Rattle.bed_names.specs.Modules.{plain, signature_names, params_of, logical_of, area_of, visible_inside, function_visible}
 use Rattle.bed_print.proofs.Places.{bare_option, bare_name, bare_bind, bare_signature, bare_predicate, bare_import, bare_function, bare_module}

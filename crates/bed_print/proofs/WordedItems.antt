@@ -12,7 +12,8 @@ use Rattle.bed_lang.specs.Prelude.{prelude}
 use Rattle.bed_names.specs.declared.error.NameError.{NameError}
 use Rattle.bed_names.specs.declared.error.NameError.TheVariants.{FallsOff}
 use Rattle.bed_names.specs.Faults.{fault_if, all_faults}
-use Rattle.bed_names.specs.Declarations.{signature_named, labels_of, words, declarations}
+use Rattle.bed_lang.specs.Declarations.{labels_of, declarations}
+use Rattle.bed_names.specs.Declarations.{signature_named, words}
 use Rattle.bed_names.specs.Terms.{Visible, twice_faults, bind_names, assertion_faults, signature_name_faults}
 use Rattle.bed_names.specs.Statements.{Judged, falls_through, list_faults, judged}
 use Rattle.bed_names.specs.Modules.{plain, without_labels, signature_names, signature_faults, predicate_faults, params_of, logical_of, locals_room_faults, inside, faults_under, function_faults, import_faults, name_spaces_faults, items_faults, faults}

@@ -23,7 +23,8 @@ use Rattle.bed_lang.specs.declared.module.Hint.TheVariants as hint
 use Rattle.bed_lang.specs.declared.statement.Stmt.{Stmt, fold-Stmt}
 use Rattle.bed_lang.specs.declared.statement.StmtKind.{StmtKind, StmtKind-F, Call, If, While, Hint as HintStmt, Find, Walk}
 use Rattle.bed_lang.specs.declared.condition.Decls.{Decls}
-use Rattle.bed_names.specs.Declarations.{signature_named, predicate_named, sequences, declarations}
+use Rattle.bed_lang.specs.Declarations.{declarations}
+use Rattle.bed_names.specs.Declarations.{signature_named, predicate_named, sequences}
 use Rattle.bed_names.specs.Terms.{Visible, with_names, is_hole, asked_by, first_sort, behind_first}
 use Rattle.bed_names.specs.Modules.{plain, without_labels, signature_names, function_visible}
 use Rattle.bed_names.specs.Resolved.{bare_sort, bare_variable, variable_arg, resolved_arg, resolved_args, resolved_applied, resolved_atom, resolved_term, resolved_assertion, resolved_hint, resolved_join, resolved_keep, resolved_step, resolved_stmt_step, resolved_stmt, resolved_signature, resolved_predicate, resolved_function, resolved_with, resolved}

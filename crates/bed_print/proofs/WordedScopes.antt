@@ -11,7 +11,8 @@ use Rattle.bed_lang.specs.declared.module.Function.{Function}
 use Rattle.bed_lang.specs.declared.module.Module.{Module}
 use Rattle.bed_lang.specs.declared.condition.Decls.{Decls}
 use Rattle.bed_lang.specs.Prelude.{prelude}
-use Rattle.bed_names.specs.Declarations.{found, named_signatures, named_predicates, signature_named, predicate_named, label_named, labels_of, declarations}
+use Rattle.bed_lang.specs.Declarations.{labels_of, declarations}
+use Rattle.bed_names.specs.Declarations.{found, named_signatures, named_predicates, signature_named, predicate_named, label_named}
 use Rattle.bed_names.specs.Terms.{Visible, asked_by, behind_first, has_other_number, has_no_case}
 use Rattle.bed_names.specs.Modules.{plain, without_labels}
 use Rattle.bed_print.proofs.Worded.{worded_signature, worded_predicate, worded_function, worded_assertion, worded_args, worded_with}

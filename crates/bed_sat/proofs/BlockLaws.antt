@@ -1,7 +1,8 @@
 -- Words in a row: frames and blocks.
 use Rattle.std.proofs.Common.{◌≡◌, ℕ, zero, suc, ◌+◌, ◌*◌, ◌<◌, ◌≤◌, Option, Some, List, [], ◌∷◌, ◌++◌, length, slice_index, slice_set, inl, inr, refl, sym, subst, arith}
 use Rattle.std.proofs.lemmas.Bool.{cases_lt}
-use Rattle.bed_machine.specs.Memory.{Memory, empty, wrap, word_at, put_word}
+use Rattle.bed_lang.specs.Numbers.{wrap}
+use Rattle.bed_machine.specs.Memory.{Memory, empty, word_at, put_word}
 use Rattle.bed_sat.specs.Parts.{Meet, Joins, Includes}
 use Rattle.bed_sat.specs.Cells.{IsCell, AreWordsAt, IsBlock}
 use Rattle.bed_sat.proofs.PartLaws.{joins_comm, joins_assoc, joins_empty, to_empty, joins_left}

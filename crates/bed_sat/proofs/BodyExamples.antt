@@ -1,7 +1,8 @@
 -- Small bodies with calls, stores and loads, whose conditions are valid or aren't.
 use Rattle.std.proofs.Common.{◌≡◌, ℕ, ◌+◌, Bool, true, false, Option, Some, None, IsSome, option_map, List, [], ◌∷◌, bytes_eq, nat_eq, codes, if◌then◌else◌, All, inl, inr, refl, sym, ◌∙◌, ap, ap₂, subst, subst₂, arith}
 use Rattle.std.proofs.lemmas.List.Elements.{All-cons, All-nil}
-use Rattle.bed_machine.specs.Memory.{Memory, empty, wrap, put_byte, put_word}
+use Rattle.bed_lang.specs.Numbers.{wrap}
+use Rattle.bed_machine.specs.Memory.{Memory, empty, put_byte, put_word}
 use Rattle.bed_machine.proofs.WordLaws.{four_bytes, put_byte_same, put_byte_gives, some_same}
 use Rattle.bed_lang.specs.declared.word.Name.{Name}
 use Rattle.bed_lang.specs.declared.word.Var.TheVariants as var
@@ -27,7 +28,7 @@ use Rattle.bed_sat.specs.Parts.{Joins}
 use Rattle.bed_sat.specs.Cells.{IsCell, IsByte}
 use Rattle.bed_sat.specs.Assertions.{World, Holds}
 use Rattle.bed_sat.specs.Frames.{set_words}
-use Rattle.bed_sat.specs.Linking.{declarations}
+use Rattle.bed_lang.specs.Declarations.{all_declarations}
 use Rattle.bed_sat.specs.Conditions.{Site, site_of, path_at_entry, path_from, then_action, condition, conditions}
 use Rattle.bed_sat.specs.Valid.{set_local, LabelsFit, CallHolds, IsValid}
 use Rattle.bed_sat.specs.Examples.{bytes_at, asserts}
@@ -77,7 +78,7 @@ module _ (pre given after post : Assertion) where
   f = calling_body after
 
   abbrev d : Decls
-  d = declarations (m ∷ [])
+  d = all_declarations (m ∷ [])
 
   abbrev calls : Cond
   calls = condition (site_of m f) 10 (Calls (operand.Label (name (codes "g"))) None (operand.Number 7 ∷ []) y after) (path_at_entry (Some (signature [] pre post)))
@@ -286,10 +287,10 @@ field_is : (labels : List ℕ → ℕ) (ν : Values) → value labels ν field �
 field_is labels ν =
     value-Add labels ν (word (codes "p")) (Number 4) ∙ ap₂ (λ a b. wrap (a + b)) (value-Var labels ν (var.Named p)) (value-Number labels ν 4)
 
-stores_valid : IsValid (declarations (storing_module ∷ [])) stores
+stores_valid : IsValid (all_declarations (storing_module ∷ [])) stores
 stores_valid = record {
   holds = λ code_map labels fit ν h starts.
-      let world : World = record { decls = declarations (storing_module ∷ []); codes = code_map; labels = labels } in
+      let world : World = record { decls = all_declarations (storing_module ∷ []); codes = code_map; labels = labels } in
       let a : ℕ = wrap (wrap (ν.words (Named (codes "p"))) + 4) in
       let μ : Values = set_word ν (Named (codes "v")) starts.holds.1.0 in
       let old : ℕ = value labels μ (word (codes "v")) in
@@ -311,7 +312,7 @@ stores_valid = record {
 
 pub storing_example : StoringExample
 storing_example =
-    let P : Cond → Type 0 = IsValid (declarations (storing_module ∷ [])) in
+    let P : Cond → Type 0 = IsValid (all_declarations (storing_module ∷ [])) in
     subst (All P) (sym storing_conditions) (All-cons P stores [] stores_valid (All-nil P))
 
 abbrev stores_byte : Cond
@@ -330,10 +331,10 @@ put_one a old h is = record { holds = put_byte_same h a 263; only = λ x b e. el
 p_is : (labels : List ℕ → ℕ) (ν : Values) → value labels ν (word (codes "p")) ≡ wrap (wrap (ν.words (Named (codes "p"))) + 0)
 p_is labels ν = value-Var labels ν (var.Named p) ∙ (omega arith)
 
-stores_byte_valid : IsValid (declarations (byte_module ∷ [])) stores_byte
+stores_byte_valid : IsValid (all_declarations (byte_module ∷ [])) stores_byte
 stores_byte_valid = record {
   holds = λ code_map labels fit ν h starts.
-      let world : World = record { decls = declarations (byte_module ∷ []); codes = code_map; labels = labels } in
+      let world : World = record { decls = all_declarations (byte_module ∷ []); codes = code_map; labels = labels } in
       let a : ℕ = wrap (wrap (ν.words (Named (codes "p"))) + 0) in
       let μ : Values = set_word ν (Named (codes "v")) starts.holds.1.0 in
       let old : ℕ = value labels μ (word (codes "v")) in
@@ -355,7 +356,7 @@ stores_byte_valid = record {
 
 pub byte_example : ByteExample
 byte_example =
-    let P : Cond → Type 0 = IsValid (declarations (byte_module ∷ [])) in
+    let P : Cond → Type 0 = IsValid (all_declarations (byte_module ∷ [])) in
     subst (All P) (sym byte_conditions) (All-cons P stores_byte [] stores_byte_valid (All-nil P))
 
 abbrev stores_nowhere : Cond
@@ -367,7 +368,7 @@ unmapped_conditions =
     let site : Site = site_of unmapped_module unmapped_function in
     one_function unmapped_module unmapped_function unmapped_function.body refl (simp (written-Store, written-Return) refl) ∙ simp (part-Store site, part-Return site) refl
 
-unmapped_refuted : IsValid (declarations (unmapped_module ∷ [])) stores_nowhere → ⊥
+unmapped_refuted : IsValid (all_declarations (unmapped_module ∷ [])) stores_nowhere → ⊥
 unmapped_refuted valid =
     let stored = claims_alone [] just_emp (asserts (three ∷ [])) [] unmapped_function.body stores_nowhere refl valid (each_is 0) empty
     (record { holds = emp_holds (world_of (signature [] just_emp (asserts (three ∷ []))) unmapped_function) (each_is 0) 0 empty refl; entry = λ e x is. refl }) in

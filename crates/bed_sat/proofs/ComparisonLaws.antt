@@ -1,7 +1,7 @@
 -- What `eval_pure` computes is the truth of a comparison.
 use Rattle.std.proofs.Common.{◌≡◌, ◌≢◌, ℕ, ◌+◌, ◌-◌, ◌*◌, ◌<◌, ◌≤◌, ◌↔◌, Bool, not, ◌&&◌, nat_eq, nat_lt, nat_le, IsTrue, Option, Some, None, IsSome, is_some, IfSome, List, refl, sym, ◌∙◌, ap, ap₂, subst, arith}
 use Rattle.std.proofs.lemmas.Bool.Decides.{nat_tests}
-use Rattle.bed_machine.specs.Memory.{wrap}
+use Rattle.bed_lang.specs.Numbers.{wrap}
 use Rattle.bed_machine.proofs.WordLaws.{some_same}
 use Rattle.bed_lang.specs.declared.word.Name.{Name}
 use Rattle.bed_lang.specs.declared.word.Var.{Var}

@@ -13,7 +13,8 @@ use Rattle.bed_lang.specs.declared.logic.Atom.{Atom}
 use Rattle.bed_lang.specs.declared.logic.Atom.TheVariants as atom
 use Rattle.bed_lang.specs.declared.logic.Term.{Term}
 use Rattle.bed_lang.specs.declared.logic.Term.TheVariants as term
-use Rattle.bed_lang.specs.Values.{wrap, Values, variable, value, list_value}
+use Rattle.bed_lang.specs.Numbers.{wrap}
+use Rattle.bed_lang.specs.Values.{Values, variable, value, list_value}
 use Rattle.bed_lang.proofs.ValueLaws.{value-Number, value-Label, value-Add, value-Sub, value-Times, value-small, list_value-Nil, list_value-Cons, list_value-App}
 use Rattle.bed_sat.specs.Cells.{IsCell, IsByte, IsBlock}
 use Rattle.bed_sat.specs.Facts.{IsTrueFact}

@@ -1,6 +1,7 @@
 -- List segments, by the prelude's predicate.
 use Rattle.std.proofs.Common.{◌≡◌, ◌≢◌, ℕ, suc, ◌+◌, Some, List, [], ◌∷◌, map, codes, refl, sym, ◌∙◌, ap₂, subst, subst₂}
-use Rattle.bed_machine.specs.Memory.{Memory, empty, wrap}
+use Rattle.bed_lang.specs.Numbers.{wrap}
+use Rattle.bed_machine.specs.Memory.{Memory, empty}
 use Rattle.bed_lang.specs.declared.word.Var.TheVariants as var
 use Rattle.bed_lang.specs.declared.word.Word.{Number, Add}
 use Rattle.bed_lang.specs.Values.{Values, Named, set_word, set_list, value, list_value}

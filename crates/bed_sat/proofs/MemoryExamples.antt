@@ -1,6 +1,7 @@
 -- The definitions at work on small memories.
 use Rattle.std.proofs.Common.{◌≡◌, ℕ, Some, [], ◌∷◌, length, codes, refl, sym, ◌∙◌, ap, ap₂, subst, subst₂, arith}
-use Rattle.bed_machine.specs.Memory.{Memory, empty, wrap}
+use Rattle.bed_lang.specs.Numbers.{wrap}
+use Rattle.bed_machine.specs.Memory.{Memory, empty}
 use Rattle.bed_lang.specs.declared.word.Word.{Number}
 use Rattle.bed_lang.specs.declared.word.Seq.{Nil, Cons}
 use Rattle.bed_lang.specs.Values.{Values, value, list_value}

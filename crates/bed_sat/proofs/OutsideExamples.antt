@@ -2,7 +2,8 @@
 use Rattle.std.proofs.Common.{◌≡◌, ℕ, zero, suc, ◌+◌, ◌*◌, ◌<◌, Option, Some, IsSome, List, [], ◌∷◌, ◌++◌, length, length-append, unwrap_or, Contains, codes, inl, inr, refl, sym, ◌∙◌, ap, subst, arith}
 use Rattle.bed_machine.specs.declared.registers.Reg.TheVariants.{Esi}
 use Rattle.bed_machine.specs.declared.instructions.Ins.TheVariants.{MovImm, Jmp}
-use Rattle.bed_machine.specs.Memory.{Memory, empty, wrap, word_at}
+use Rattle.bed_lang.specs.Numbers.{wrap}
+use Rattle.bed_machine.specs.Memory.{Memory, empty, word_at}
 use Rattle.bed_machine.specs.Instructions.{row}
 use Rattle.bed_machine.specs.MachineCode.{IsInCode}
 use Rattle.bed_machine.specs.Machine.{MachineState, Outside as NotInCode, NoInstruction, Makes}

@@ -17,7 +17,7 @@ use Rattle.bed_lang.proofs.ValueLaws.{value-Var}
 use Rattle.bed_lang.specs.Lookups.{second_of, function_signature}
 use Rattle.bed_sat.specs.Cells.{IsCell}
 use Rattle.bed_sat.specs.Assertions.{World}
-use Rattle.bed_sat.specs.Linking.{declarations}
+use Rattle.bed_lang.specs.Declarations.{all_declarations}
 use Rattle.bed_sat.specs.Valid.{After, GoalHolds, LabelsFit, set_local, Starts, IsValid}
 use Rattle.bed_sat.specs.Examples.{bytes_at}
 use Rattle.bed_sat.specs.ConditionExamples.{function_of, module_of, signature, just_emp, y, some_cell, forgetting_function, forgetting_module, ForgottenCellExample, loading_function, loading_module, UnmappedLoadExample, is_above, adding_function, adding_module, WrappingSumExample}
@@ -28,7 +28,7 @@ use Rattle.bed_sat.proofs.ValidExamples.{emp_is, emp_holds, fact_is}
 
 -- the declarations of a module of one function, and a world in which each address is of code with the signature S
 abbrev pub decls_of : Signature → Function → Decls
-decls_of S f = declarations (module_of S f ∷ [])
+decls_of S f = all_declarations (module_of S f ∷ [])
 
 abbrev pub world_of : Signature → Function → World
 world_of S f = record { decls = decls_of S f; codes = λ a. Some (codes "S"); labels = λ x. 0 }
@@ -63,7 +63,7 @@ not_there n e = absurd (cc)
 abbrev pub each_is : ℕ → Values
 each_is n = record { words = λ x. n; lists = λ x. [] }
 
-forgets_refuted : IsValid (declarations (forgetting_module ∷ [])) forgets → ⊥
+forgets_refuted : IsValid (all_declarations (forgetting_module ∷ [])) forgets → ⊥
 forgets_refuted valid =
     let w : World = world_of (signature (name (codes "p") ∷ []) some_cell just_emp) forgetting_function in
     let ν : Values = each_is 1000 in
@@ -79,14 +79,14 @@ forgets_refuted valid =
     let nothing : h ≡ empty = emp_is w after 0 h ends in
     not_there 0 (ap (λ m. m 1000) nothing)
 
-loads_refuted : IsValid (declarations (loading_module ∷ [])) loads → ⊥
+loads_refuted : IsValid (all_declarations (loading_module ∷ [])) loads → ⊥
 loads_refuted valid =
     let w : World = world_of (signature (name (codes "p") ∷ []) just_emp just_emp) loading_function in
     let loaded = claims (name (codes "p") ∷ []) just_emp just_emp (y ∷ []) loading_function.body loads refl valid (each_is 0) empty
     (record { holds = emp_holds w (each_is 0) 0 empty refl; entry = λ e x is. refl }) in
     not_there loaded.0 (sym loaded.1)
 
-adds_refuted : IsValid (declarations (adding_module ∷ [])) adds → ⊥
+adds_refuted : IsValid (all_declarations (adding_module ∷ [])) adds → ⊥
 adds_refuted valid =
     let w : World = world_of (signature (name (codes "a") ∷ []) just_emp is_above) adding_function in
     let ν : Values = each_is 4294967295 in

@@ -4,7 +4,8 @@ use Rattle.bed_machine.specs.declared.registers.Reg.TheVariants.{Eax, Ecx, Ebp, 
 use Rattle.bed_machine.specs.declared.registers.Regs.{Regs}
 use Rattle.bed_machine.specs.declared.instructions.Rm.TheVariants.{Reg as InRegister, Mem}
 use Rattle.bed_machine.specs.declared.instructions.Ins.TheVariants.{MovTo, MovFrom, JmpReg}
-use Rattle.bed_machine.specs.Memory.{Memory, empty, wrap, word_at, put_word}
+use Rattle.bed_lang.specs.Numbers.{wrap}
+use Rattle.bed_machine.specs.Memory.{Memory, empty, word_at, put_word}
 use Rattle.bed_machine.specs.Instructions.{row, IsAllowed}
 use Rattle.bed_machine.specs.MachineCode.{IsInCode}
 use Rattle.bed_machine.specs.Machine.{MachineState, set_register, with_register, effect}

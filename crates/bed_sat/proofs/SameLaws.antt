@@ -24,7 +24,8 @@ use Rattle.bed_lang.specs.declared.logic.Bind.{Bind}
 use Rattle.bed_lang.specs.declared.logic.Assertion.{Assertion}
 use Rattle.bed_lang.specs.declared.condition.Decls.{Decls}
 use Rattle.bed_lang.specs.Same.{same_sort, same_name, same_var, same_word, same_word_layer, same_seq, same_seq_layer, same_arg, same_pure, same_atom, same_term, same_bind, same_assertion}
-use Rattle.bed_lang.specs.Values.{wrap, Values, variable, Named, set_word, set_list, value, value_step, list_value, list_value_step}
+use Rattle.bed_lang.specs.Numbers.{wrap}
+use Rattle.bed_lang.specs.Values.{Values, variable, Named, set_word, set_list, value, value_step, list_value, list_value_step}
 use Rattle.bed_lang.specs.Values as values
 use Rattle.bed_lang.proofs.RollLaws.{value_roll, list_roll, same_word-roll, same_seq-roll}
 use Rattle.bed_sat.specs.Cells.{IsCell, IsByte, IsBlock}

@@ -19,7 +19,8 @@ use Rattle.bed_lang.specs.declared.logic.Term.TheVariants as term
 use Rattle.bed_lang.specs.declared.logic.Bind.{Bind}
 use Rattle.bed_lang.specs.declared.logic.Assertion.{Assertion}
 use Rattle.bed_lang.specs.Same.{same_sort}
-use Rattle.bed_lang.specs.Values.{wrap, Values, Named, variable, same_variable, set_word, set_list, value, list_value}
+use Rattle.bed_lang.specs.Numbers.{wrap}
+use Rattle.bed_lang.specs.Values.{Values, Named, variable, same_variable, set_word, set_list, value, list_value}
 use Rattle.bed_lang.proofs.RollLaws.{value_roll, list_roll}
 use Rattle.bed_sat.specs.Cells.{IsCell, IsByte, IsBlock}
 use Rattle.bed_sat.specs.Facts.{IsTrueFact}

@@ -1,7 +1,8 @@
 -- Conditions that are valid, and some that aren't.
 use Rattle.std.proofs.Common.{◌≡◌, ℕ, ◌+◌, ◌≤◌, List, [], ◌∷◌, codes, refl, sym, ◌∙◌, ap, subst, arith, All}
 use Rattle.std.proofs.lemmas.List.Elements.{All-cons, All-nil}
-use Rattle.bed_machine.specs.Memory.{Memory, empty, wrap}
+use Rattle.bed_lang.specs.Numbers.{wrap}
+use Rattle.bed_machine.specs.Memory.{Memory, empty}
 use Rattle.bed_lang.specs.declared.word.Name.{Name}
 use Rattle.bed_lang.specs.declared.word.Var.TheVariants as var
 use Rattle.bed_lang.specs.declared.word.Word.{Number, Var as WordVar}
@@ -16,7 +17,7 @@ use Rattle.bed_lang.proofs.ValueLaws.{value-Number, value-Var}
 use Rattle.bed_sat.specs.Parts.{Joins}
 use Rattle.bed_sat.specs.Facts.{IsTrueFact}
 use Rattle.bed_sat.specs.Assertions.{World, Holds}
-use Rattle.bed_sat.specs.Linking.{declarations}
+use Rattle.bed_lang.specs.Declarations.{all_declarations}
 use Rattle.bed_sat.specs.Valid.{set_local, IsValid}
 use Rattle.bed_sat.specs.ConditionExamples.{name_at, word_at, counting_module, counting_begins, counting_goes_on, counting_ends, CountingIsValidExample, y, imported_signature, calling_module, CallIsValidExample}
 use Rattle.bed_sat.proofs.ConditionExamples.{counting_example, calls, returns, calling_conditions}
@@ -62,7 +63,7 @@ abbrev kept : Pure
 kept = pure.Equal (word_at (codes "n") 142) (WordVar (var.Old (name_at (codes "n") 146)))
 
 abbrev counting_decls : Decls
-counting_decls = declarations (counting_module ∷ [])
+counting_decls = all_declarations (counting_module ∷ [])
 
 -- the values of its variables, wherever they stand
 module _ (labels : List ℕ → ℕ) (ν : Values) where
@@ -117,7 +118,7 @@ counting_is_valid =
 -- ---- a call
 
 abbrev calling_decls : Decls
-calling_decls = declarations (calling_module ∷ [])
+calling_decls = all_declarations (calling_module ∷ [])
 
 calls_valid : IsValid calling_decls calls
 calls_valid = record {

@@ -20,7 +20,7 @@ use Rattle.bed_lang.specs.declared.condition.Cond.{Cond}
 use Rattle.bed_lang.specs.Prelude.{name, word, bind}
 use Rattle.bed_lang.specs.Values.{Values}
 use Rattle.bed_table.specs.ListLoops.{field_at}
-use Rattle.bed_sat.specs.Linking.{declarations}
+use Rattle.bed_lang.specs.Declarations.{all_declarations}
 use Rattle.bed_sat.specs.Conditions.{conditions}
 use Rattle.bed_sat.specs.Valid.{CallHolds, IsValid}
 use Rattle.bed_sat.specs.Examples.{asserts}
@@ -29,11 +29,11 @@ use Rattle.bed_sat.specs.ConditionLaws.{is_live}
 
 -- the first condition that the text owes isn't valid
 abbrev pub IsRefutedFirst : Module → Type 0
-IsRefutedFirst m = (c : Cond) × (cs : List Cond) × (conditions m ≡ c ∷ cs) × (IsValid (declarations (m ∷ [])) c → ⊥)
+IsRefutedFirst m = (c : Cond) × (cs : List Cond) × (conditions m ≡ c ∷ cs) × (IsValid (all_declarations (m ∷ [])) c → ⊥)
 
 -- the conditions that the text owes are valid
 abbrev pub AreValid : Module → Type 0
-AreValid m = All (IsValid (declarations (m ∷ []))) (conditions m)
+AreValid m = All (IsValid (all_declarations (m ∷ []))) (conditions m)
 
 -- ---- calls
 
@@ -96,7 +96,7 @@ CellStaysExample = AreValid (calling_text (asserts (three ∷ [])) just_emp seve
 abbrev pub UnknownTargetExample : Type 0
 UnknownTargetExample =
     (ν : Values) (h : Memory)
-    → CallHolds (record { decls = declarations (calling_module ∷ []); codes = λ a. None; labels = λ f. 0 }) (operand.Local y)
+    → CallHolds (record { decls = all_declarations (calling_module ∷ []); codes = λ a. None; labels = λ f. 0 }) (operand.Local y)
     (Some (name (codes "G"))) (operand.Number 7 ∷ []) y is_seven ν h
     → ⊥
 

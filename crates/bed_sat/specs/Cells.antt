@@ -1,7 +1,8 @@
 -- Parts of memory of a known form, as the points-to assertions of separation logic have them: each has these bytes and no
 -- others, so nothing is dropped or left over.
 use Rattle.std.specs.Prelude.{◌≡◌, ℕ, ◌+◌, ◌<◌, ◌≤◌, Some, List, [], ◌∷◌, length}
-use Rattle.bed_machine.specs.Memory.{Memory, empty, wrap, word_at}
+use Rattle.bed_lang.specs.Numbers.{wrap}
+use Rattle.bed_machine.specs.Memory.{Memory, empty, word_at}
 use Rattle.bed_sat.specs.Parts.{Joins}
 
 -- exactly the four bytes of one word, the lowest first; the last of them has an address

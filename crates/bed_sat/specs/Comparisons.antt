@@ -1,6 +1,6 @@
 -- Comparisons of words over numbers and named values.
 use Rattle.std.specs.Prelude.{◌≡◌, ℕ, ◌+◌, ◌-◌, ◌*◌, Bool, true, false, ◌&&◌, Option, Some, None, is_some, List, [], ◌∷◌, bytes_eq, nat_eq, nat_lt, nat_le, not, if◌then◌else◌}
-use Rattle.bed_machine.specs.Memory.{wrap}
+use Rattle.bed_lang.specs.Numbers.{wrap}
 use Rattle.bed_lang.specs.declared.word.Name.{Name}
 use Rattle.bed_lang.specs.declared.word.Var.{Var}
 use Rattle.bed_lang.specs.declared.word.Var.TheVariants as var

@@ -24,7 +24,7 @@ use Rattle.bed_lang.specs.declared.condition.Goal.TheVariants.{Meets, Returns}
 use Rattle.bed_lang.specs.declared.condition.Cond.{Cond}
 use Rattle.bed_lang.specs.Prelude.{name, word, sequence, bind}
 use Rattle.bed_table.specs.ListLoops.{field_at}
-use Rattle.bed_sat.specs.Linking.{declarations}
+use Rattle.bed_lang.specs.Declarations.{all_declarations}
 use Rattle.bed_sat.specs.Written.{hole}
 use Rattle.bed_sat.specs.Conditions.{conditions}
 use Rattle.bed_sat.specs.Valid.{IsValid}
@@ -144,7 +144,7 @@ abbrev pub CountingExample : Type 0
 CountingExample = conditions counting_module ≡ counting_begins ∷ counting_goes_on ∷ counting_ends ∷ []
 
 abbrev pub CountingIsValidExample : Type 0
-CountingIsValidExample = All (IsValid (declarations (counting_module ∷ []))) (conditions counting_module)
+CountingIsValidExample = All (IsValid (all_declarations (counting_module ∷ []))) (conditions counting_module)
 
 -- ---- a body with a join and a call, and one with a list loop
 
@@ -279,13 +279,13 @@ abbrev pub calling_module : Module
 calling_module = importing_module_of (signature [] just_emp returns_seven) calling_function
 
 abbrev pub CallIsValidExample : Type 0
-CallIsValidExample = All (IsValid (declarations (calling_module ∷ []))) (conditions calling_module)
+CallIsValidExample = All (IsValid (all_declarations (calling_module ∷ []))) (conditions calling_module)
 
 -- ---- conditions that aren't valid
 
 -- the text owes one condition, and that isn't valid
 abbrev pub IsRefuted : Module → Type 0
-IsRefuted m = (c : Cond) × (conditions m ≡ c ∷ []) × (IsValid (declarations (m ∷ [])) c → ⊥)
+IsRefuted m = (c : Cond) × (conditions m ≡ c ∷ []) × (IsValid (all_declarations (m ∷ [])) c → ⊥)
 
 -- exists v: word. p |-> v
 abbrev pub some_cell : Assertion

@@ -2,7 +2,8 @@
 -- return address, EAX the answer. A signature with k arguments and reserve r has a frame of 1 + k + r words: word 0 is for the
 -- return address, and words 1 to k hold the arguments.
 use Rattle.std.specs.Prelude.{◌≡◌, ℕ, zero, suc, ◌+◌, Option, List, [], ◌∷◌, ◌++◌, length, unwrap_or}
-use Rattle.bed_machine.specs.Memory.{Memory, wrap, word_at}
+use Rattle.bed_lang.specs.Numbers.{wrap}
+use Rattle.bed_machine.specs.Memory.{Memory, word_at}
 use Rattle.bed_machine.specs.Machine.{MachineState}
 use Rattle.bed_lang.specs.declared.word.Name.{Name}
 use Rattle.bed_lang.specs.declared.logic.Assertion.{Assertion}

@@ -3,39 +3,13 @@
 use Rattle.std.specs.Prelude.{ℕ, List, [], ◌∷◌, ◌++◌, map, find, bytes_eq, Option, Some, None}
 use Rattle.bed_lang.specs.declared.word.Name.{Name}
 use Rattle.bed_lang.specs.declared.module.Signature.{Signature}
-use Rattle.bed_lang.specs.declared.module.Predicate.{Predicate}
 use Rattle.bed_lang.specs.declared.module.Import.{Import}
 use Rattle.bed_lang.specs.declared.module.Module.{Module}
-use Rattle.bed_lang.specs.declared.condition.Decls.{Decls}
 use Rattle.bed_table.specs.Pieces.{Head}
 use Rattle.bed_table.specs.Layout.{Placed, placed, heads_at, label_address, outside_imports, code}
-use Rattle.bed_lang.specs.Prelude.{prelude}
+use Rattle.bed_lang.specs.Declarations.{all_signatures, all_imports, all_declarations}
 use Rattle.bed_lang.specs.Lookups.{first_signature}
 use Rattle.bed_sat.specs.Sound.{FunctionAt, LoopAt, ImportAt, Linked}
-
--- the signatures, predicates, labels and imports of all modules, in their order
-abbrev pub all_signatures : List Module → List Signature
-all_signatures [] = []
-all_signatures (m ∷ ms) = m.signatures ++ all_signatures ms
-
-abbrev pub all_predicates : List Module → List Predicate
-all_predicates [] = []
-all_predicates (m ∷ ms) = m.predicates ++ all_predicates ms
-
-abbrev pub labels_in : Module → List (Name × Name)
-labels_in m = map (λ i. (i.name, i.signature)) m.imports ++ map (λ f. (f.name, f.signature)) m.functions
-
-abbrev pub all_labels : List Module → List (Name × Name)
-all_labels [] = []
-all_labels (m ∷ ms) = labels_in m ++ all_labels ms
-
-abbrev pub all_imports : List Module → List Import
-all_imports [] = []
-all_imports (m ∷ ms) = m.imports ++ all_imports ms
-
--- the declarations of all modules, the prelude's predicates first
-abbrev pub declarations : List Module → Decls
-declarations ms = record { signatures = all_signatures ms; predicates = prelude ++ all_predicates ms; labels = all_labels ms }
 
 -- a function at its address with its signature, before others; nothing is said of one whose signature isn't declared
 abbrev pub with_function : Option Signature → Placed → List FunctionAt → List FunctionAt
@@ -77,6 +51,6 @@ linked modules base imports = record {
   functions = functions_at (all_signatures modules) (placed modules base);
   loops = loops_at (all_signatures modules) (placed modules base);
   imports = imports_at (label_address modules base imports) (all_imports modules) (outside_imports modules);
-  decls = declarations modules;
+  decls = all_declarations modules;
   labels = label_address modules base imports;
 }

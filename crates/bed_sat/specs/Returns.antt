@@ -4,7 +4,7 @@ use Rattle.bed_machine.specs.declared.registers.Reg.TheVariants.{Eax, Ecx, Ebp, 
 use Rattle.bed_machine.specs.declared.instructions.Rm.TheVariants.{Reg as InRegister, Mem}
 use Rattle.bed_machine.specs.declared.instructions.Ins.{Ins}
 use Rattle.bed_machine.specs.declared.instructions.Ins.TheVariants.{MovImm, MovTo, MovFrom, JmpReg}
-use Rattle.bed_machine.specs.Memory.{wrap}
+use Rattle.bed_lang.specs.Numbers.{wrap}
 use Rattle.bed_machine.specs.Instructions.{row}
 use Rattle.bed_lang.specs.declared.word.Name.{Name}
 use Rattle.bed_lang.specs.declared.word.Var.TheVariants as var

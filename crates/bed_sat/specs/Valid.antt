@@ -1,7 +1,8 @@
 -- When a condition is valid: from its start its actions fail nowhere, and its goal holds after them, whatever the code map, the
 -- addresses of labels, the values of variables and the memory.
 use Rattle.std.specs.Prelude.{◌≡◌, ◌≢◌, ℕ, ◌+◌, ◌-◌, ◌*◌, ◌<◌, ◌≤◌, IsTrue, Option, Some, None, IsSome, List, [], ◌∷◌, map, length, take, Contains, bit_and, bit_or, bit_xor}
-use Rattle.bed_machine.specs.Memory.{Memory, wrap, word_at, put_byte, put_word}
+use Rattle.bed_lang.specs.Numbers.{wrap}
+use Rattle.bed_machine.specs.Memory.{Memory, word_at, put_byte, put_word}
 use Rattle.bed_lang.specs.declared.word.Name.{Name}
 use Rattle.bed_lang.specs.declared.logic.Assertion.{Assertion}
 use Rattle.bed_lang.specs.declared.module.Operand.{Operand}

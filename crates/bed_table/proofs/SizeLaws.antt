@@ -13,8 +13,8 @@ use Rattle.bed_lang.specs.declared.module.Function.{Function}
 use Rattle.bed_lang.specs.declared.module.Module.{Module}
 use Rattle.bed_lang.specs.declared.statement.Stmt.{Stmt, Stmt-F, fold-Stmt, ind-Stmt, map-Stmt, roll-Stmt, out-Stmt, fold-roll-Stmt, fold_out-Stmt}
 use Rattle.bed_lang.specs.declared.statement.StmtKind.{StmtKind, StmtKind-F, out-StmtKind, roll-StmtKind, map-StmtKind, fold-StmtKind, fold-roll-StmtKind, fold_out-StmtKind}
-use Rattle.bed_lang.specs.Values.{wrap}
-use Rattle.bed_table.specs.Words.{word_bytes, slot, call_area}
+use Rattle.bed_lang.specs.Numbers.{wrap, word_bytes}
+use Rattle.bed_table.specs.Words.{slot, call_area}
 use Rattle.bed_table.specs.Pieces.{Piece, Head, straight, nothing, sequence, falls_after, size_of, bytes_of, heads_of}
 use Rattle.bed_table.specs.CodeTable.{operand_size, into_ecx, into_edx, keep_ecx, entry, assignment, operation, operation_size, computation, load, load_byte, store, store_byte, test_size, test_bytes, jump_bytes, jump_size, jump_if, choice, loop, arguments_size, arguments_bytes, transfer_bytes, call, answer}
 use Rattle.bed_table.specs.ListLoops.{list_loop, finding, walking, not_null, is_key, field_at}

@@ -2,10 +2,9 @@
 use Rattle.std.proofs.Common.{◌≡◌, ℕ, suc, ◌+◌, ◌/◌, ◌%◌, ◌<◌, ◌≤◌, List, [], ◌∷◌, ◌++◌, map, length, drop, get_or, refl, sym, ◌∙◌, ap, ap₂, arith, append_assoc, length-append, add-one, drop-cons, codes}
 use Rattle.bed_lang.specs.declared.word.Name.{Name}
 use Rattle.bed_lang.specs.declared.module.Module.{Module}
-use Rattle.bed_lang.specs.Values.{wrap}
+use Rattle.bed_lang.specs.Numbers.{wrap, word_bytes}
 use Rattle.bed_table.specs.declared.layout.Item.{Item}
 use Rattle.bed_table.specs.declared.symbols.SymbolTable.{SymbolTable}
-use Rattle.bed_table.specs.Words.{word_bytes}
 use Rattle.bed_table.specs.Code.{function_piece}
 use Rattle.bed_table.specs.Layout.{Defined, Placed, Label, placed_from, placed, all_defined, total_size, function_size, code_length, code_of, code, address_of, all_labels, label_address, function_label, import_label, imported, outside_names, outside_imports}
 use Rattle.bed_table.specs.Image.{Symbol, symbol_bytes, table_bytes, function_symbols, symbols_of, import_symbols, symbols, image}

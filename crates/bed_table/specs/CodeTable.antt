@@ -12,8 +12,8 @@ use Rattle.bed_lang.specs.declared.module.Rel.{Rel}
 use Rattle.bed_lang.specs.declared.module.Rel.TheVariants.{Equal, Unequal, Less, AtMost}
 use Rattle.bed_lang.specs.declared.module.Place.{Place}
 use Rattle.bed_lang.specs.declared.module.Test.{Test}
-use Rattle.bed_lang.specs.Values.{wrap}
-use Rattle.bed_table.specs.Words.{word_bytes, displacement, slot, call_area}
+use Rattle.bed_lang.specs.Numbers.{wrap, word_bytes}
+use Rattle.bed_table.specs.Words.{displacement, slot, call_area}
 use Rattle.bed_table.specs.Pieces.{Piece, straight}
 
 -- how many bytes bring an operand into a register

@@ -2,7 +2,7 @@
 use Rattle.std.specs.Prelude.{ℕ, ◌+◌, ◌-◌, Bool, true, false, List, [], ◌∷◌, ◌++◌, map, length, drop, decimal, codes, if◌then◌else◌}
 use Rattle.bed_lang.specs.declared.word.Name.{Name}
 use Rattle.bed_lang.specs.declared.module.Module.{Module}
-use Rattle.bed_table.specs.Words.{word_bytes}
+use Rattle.bed_lang.specs.Numbers.{word_bytes}
 use Rattle.bed_table.specs.Pieces.{Head}
 use Rattle.bed_table.specs.Layout.{Placed, placed, heads_at, label_address, outside_imports, code_length, code}
 

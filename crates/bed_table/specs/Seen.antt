@@ -1,7 +1,7 @@
 -- What the code's own values stand for.
 use Rattle.std.specs.Prelude.{◌≡◌, ℕ, ◌+◌, List, ◌++◌, map, length}
 use Rattle.bed_lang.specs.declared.word.Name.{Name}
-use Rattle.bed_lang.specs.Values.{wrap}
+use Rattle.bed_lang.specs.Numbers.{wrap}
 use Rattle.bed_table.specs.declared.scope.Known.{Known}
 use Rattle.bed_table.specs.declared.scope.Scope.{Scope}
 use Rattle.bed_table.specs.declared.layout.Item.{Item}

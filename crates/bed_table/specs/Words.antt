@@ -1,11 +1,7 @@
--- Words as bytes, and the places of locals in a frame.
-use Rattle.std.specs.Prelude.{ℕ, ◌+◌, ◌-◌, ◌*◌, ◌/◌, ◌%◌, List, [], ◌∷◌, length, bytes_eq, if◌then◌else◌}
+-- The places of locals in a frame, and relative jumps.
+use Rattle.std.specs.Prelude.{ℕ, ◌+◌, ◌-◌, ◌*◌, List, [], ◌∷◌, length, bytes_eq, if◌then◌else◌}
 use Rattle.bed_lang.specs.declared.word.Name.{Name}
-use Rattle.bed_lang.specs.Values.{wrap}
-
--- the four bytes of a word, the lowest first
-abbrev pub word_bytes : ℕ → List ℕ
-word_bytes n = (n % 256) ∷ (n / 256 % 256) ∷ (n / 65536 % 256) ∷ (n / 16777216 % 256) ∷ []
+use Rattle.bed_lang.specs.Numbers.{wrap}
 
 -- what a relative jump adds to the address of the next instruction to come to a target
 abbrev pub displacement : ℕ → ℕ → ℕ

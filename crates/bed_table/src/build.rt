@@ -1,7 +1,6 @@
 //! Whole images.
 ghost use Rattle.std.specs.Prelude.{◌≡◌, ◌+◌, ◌^◌, ◌≤◌, ◌++◌, map, length, codes, IfOk, OnOk};
-ghost use Rattle.bed_lang.specs.Values.{wrap};
-ghost use Rattle.bed_table.specs.Words.{word_bytes};
+ghost use Rattle.bed_lang.specs.Numbers.{wrap, word_bytes};
 ghost use Rattle.bed_table.specs.Layout as layout;
 ghost use Rattle.bed_table.specs.Image as image_format;
 ghost use Rattle.bed_table.specs.Seen.{IsTable, label_of, defined_of};

@@ -1,6 +1,6 @@
 //! Bytes of single instructions.
 ghost use Rattle.std.specs.Prelude.{◌≡◌, ◌++◌, OnOk};
-ghost use Rattle.bed_table.specs.Words.{word_bytes};
+ghost use Rattle.bed_lang.specs.Numbers.{word_bytes};
 
 use std::alloc::AllocError;
 

@@ -1,7 +1,8 @@
 //! The rows of the code table that hold no statement.
 ghost use Rattle.std.specs.Prelude.{◌≡◌, ◌+◌, ◌≤◌, [], ◌∷◌, ◌++◌, OnOk};
 ghost use Rattle.bed_lang.specs.declared.module.Operand.TheVariants as operand;
-ghost use Rattle.bed_table.specs.Words.{displacement as displacement_of, word_bytes};
+ghost use Rattle.bed_lang.specs.Numbers.{word_bytes};
+ghost use Rattle.bed_table.specs.Words.{displacement as displacement_of};
 ghost use Rattle.bed_table.specs.CodeTable as table;
 ghost use Rattle.bed_table.specs.ListLoops.{not_null, is_key, field_at};
 ghost use Rattle.bed_table.specs.ListParts.{list_front, list_back};

@@ -37,7 +37,8 @@ use Rattle.bed_sat.proofs.FrameLaws.{bytes_eq_is}
 use Rattle.bed_top.specs.Returns.{only, has_name, all_differ, is_empty, is_emp, is_empty_memory, is_answer, answer_of, promised_word, is_value_layer, is_value, signature_is_built, returned_of, returned_operand, is_number_or_local, function_is_built, module_is_built, says_same_layer, says_same, says_both, keeps_promise, first_broken, broken_condition}
 use Rattle.bed_lang.specs.declared.condition.Decls.{Decls}
 use Rattle.bed_lang.specs.Lookups.{first_signature}
-use Rattle.bed_names.specs.Declarations.{declarations, signature_named}
+use Rattle.bed_lang.specs.Declarations.{declarations}
+use Rattle.bed_names.specs.Declarations.{signature_named}
 use Rattle.bed_names.specs.Terms.{Visible, with_names}
 use Rattle.bed_names.specs.Modules.{plain, signature_names, function_visible}
 use Rattle.bed_names.specs.Resolved.{resolved, resolved_term, resolved_assertion, resolved_signature, resolved_predicate, resolved_step, resolved_stmt_step, resolved_kind, resolved_stmt, resolved_function}

@@ -30,7 +30,7 @@ use Rattle.bed_top.specs.Work.{Ends}
 use Rattle.bed_top.specs.declared.lines.Numbers.{Numbers}
 use Rattle.bed_names.specs.Faults.{refusal}
 use Rattle.bed_names.specs.Modules.{faults}
-use Rattle.bed_names.specs.Declarations.{declarations}
+use Rattle.bed_lang.specs.Declarations.{declarations}
 use Rattle.bed_names.specs.Resolved.{resolved, resolved_function}
 use Rattle.bed_names.specs.declared.error.NameError.{NameError}
 use Rattle.bed_names.specs.declared.error.NameError.TheVariants as name

@@ -1,5 +1,5 @@
 use Rattle.std.proofs.Common.{◌≡◌, ◌+◌, ◌*◌, ◌<◌, ◌++◌, drop}
-use Rattle.bed_lang.specs.Values.{wrap}
+use Rattle.bed_lang.specs.Numbers.{wrap}
 use Rattle.bed_table.specs.Words.{call_area}
 use Rattle.bed_table.specs.CodeTable.{arguments_bytes}
 use Rattle.bed_table.specs.Seen.{names_in, labels_in}

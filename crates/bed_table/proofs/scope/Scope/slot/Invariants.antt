@@ -1,5 +1,5 @@
 use Rattle.std.proofs.Common.{◌≡◌, ◌+◌, ◌*◌, ◌<◌, ◌++◌, drop}
-use Rattle.bed_lang.specs.Values.{wrap}
+use Rattle.bed_lang.specs.Numbers.{wrap}
 use Rattle.bed_table.specs.Words.{number_of, slot}
 use Rattle.bed_table.specs.Seen.{names_in}
 use Rattle.bed_table.proofs.scope.Scope.slot.Given as goal

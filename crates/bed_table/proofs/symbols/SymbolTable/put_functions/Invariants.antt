@@ -1,5 +1,5 @@
 use Rattle.std.proofs.Common.{◌≡◌, ◌+◌, ◌≤◌, ◌++◌, length, drop, map}
-use Rattle.bed_lang.specs.Values.{wrap}
+use Rattle.bed_lang.specs.Numbers.{wrap}
 use Rattle.bed_table.specs.Layout.{placed_from, total_size}
 use Rattle.bed_table.specs.Image.{symbols_of, table_bytes}
 use Rattle.bed_table.specs.Seen.{defined_of}

@@ -1,5 +1,5 @@
 use Rattle.std.proofs.Common.{◌≡◌, ◌+◌, ◌++◌, length, drop, map}
-use Rattle.bed_lang.specs.Values.{wrap}
+use Rattle.bed_lang.specs.Numbers.{wrap}
 use Rattle.bed_table.specs.Layout.{address_of}
 use Rattle.bed_table.specs.Image.{import_symbols, table_bytes}
 use Rattle.bed_table.specs.Seen.{label_of}

@@ -1,5 +1,5 @@
 use Rattle.std.proofs.Common.{◌≡◌, ◌+◌, ◌++◌, length, drop}
-use Rattle.bed_lang.specs.Values.{wrap}
+use Rattle.bed_lang.specs.Numbers.{wrap}
 use Rattle.bed_table.specs.Image.{loop_symbols, table_bytes}
 use Rattle.bed_table.proofs.symbols.SymbolTable.put_loops.Given as goal
 
