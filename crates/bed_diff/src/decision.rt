@@ -67,8 +67,10 @@ fn cut_circuit(
 /// answered by a chain.
 ///
 /// There are at most 65,536 nodes, numbered from 0; each end of an edge and of the goal is one of them,
-/// and each weight lies between -2^33 and 2^33, both allowed. The only error is want of memory; it also
-/// comes where there are 2^32 - 1 edges or more, which a computer of 64 bits holds in no less than 64 GB.
+/// and each weight lies between -2^33 and 2^33, both allowed.
+///
+/// # Errors
+/// `AllocError` for want of memory, and for 2^32 edges or more, whose places 32 bits don't hold.
 pub fn decide(
     alloc: Global,
     nodes: u32,
@@ -82,7 +84,7 @@ pub fn decide(
     ensures cycle { IfOk result (OnCycle (IsNegativeCycle edges.now)) }
     ensures point { IfOk result (OnPoint (IsPoint nodes edges.now goal.now)) }
 {
-    if edges.len() >= u32::MAX as usize {
+    if edges.len() > u32::MAX as usize {
         return Err(AllocError);
     }
     let mut all = Vec::from_slice(alloc, edges)?;
