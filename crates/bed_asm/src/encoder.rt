@@ -14,6 +14,7 @@ use bed_machine::{Arith, Branch, Ins, Reg, Rm};
 pub fn encode(i: &Ins, into: &mut [u8; 16]) -> usize
     requires { IsAllowed i.now }
     ensures size { result ≡ length (row i.now) }
+    ensures short { result ≤ 7 }
     ensures bytes { into.new ≡ row i.now ++ drop result into.old }
     ensures decodes { BeginsWith into.new i.now result }
 {
@@ -23,6 +24,7 @@ pub fn encode(i: &Ins, into: &mut [u8; 16]) -> usize
 /// The same, for every instruction.
 fn put_row(i: Ins, into: &mut [u8; 16]) -> usize
     ensures size { result ≡ length (row i) }
+    ensures short { result ≤ 7 }
     ensures bytes { into.new ≡ row i ++ drop result into.old }
 {
     match i {
@@ -78,6 +80,7 @@ fn put_with_word(into: &mut [u8; 16], opcode: &[u8], word: u32) -> usize
 fn put_with_operand(into: &mut [u8; 16], opcode: u8, field: u8, rm: Rm) -> usize
     requires { field < 8 }
     ensures size { result ≡ length (opcode ∷ operand field rm) }
+    ensures short { result ≤ 6 }
     ensures bytes { into.new ≡ (opcode ∷ operand field rm) ++ drop result into.old }
 {
     match rm {
