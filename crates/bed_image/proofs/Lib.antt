@@ -1,0 +1,4 @@
+mod FieldLemmas
+mod SymbolLemmas
+mod ImageLemmas
+mod LoopLemmas
