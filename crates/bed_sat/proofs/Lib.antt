@@ -21,6 +21,7 @@ pub mod ConditionExamples
 pub mod ValidExamples
 pub mod RefutedExamples
 pub mod WrittenLaws
+mod WrittenParts
 pub mod PathLaws
 pub mod WrittenCode
 pub mod SoundExamples

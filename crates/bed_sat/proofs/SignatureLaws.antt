@@ -14,20 +14,20 @@ use Rattle.bed_lang.specs.Values.{Values, Named, Answer, set_word}
 use Rattle.bed_sat.specs.Cells.{IsBlock}
 use Rattle.bed_sat.specs.Assertions.{World, Holds}
 use Rattle.bed_sat.specs.Frames.{words_at, set_words, frame_size, arguments_at, arguments, EntersAt, LeavesAt, Enters, Returned}
-use Rattle.bed_sat.specs.Declarations.{Extends}
+use Rattle.bed_sat.specs.Declarations.{KeepsPredicates}
 use Rattle.bed_sat.proofs.FrameLaws.{bytes_eq_is}
 use Rattle.bed_sat.proofs.SameLaws.{holds_same, holds_extends}
 
 no : {A : Type 0} → ◌≡◌ {A = Bool} false true → A
 no e = absurd cc
 
-names_long : (xs ys : List Name) → IsTrue (pointwise same_name xs ys) → length xs ≡ length ys
+pub names_long : (xs ys : List Name) → IsTrue (pointwise same_name xs ys) → length xs ≡ length ys
 names_long [] [] is = refl
 names_long (x ∷ xs) (y ∷ ys) is = ap suc (names_long xs ys (and_parts (same_name x y) _ is).1)
 names_long [] (y ∷ ys) is = no is
 names_long (x ∷ xs) [] is = no is
 
-names_set : (ν : Values) (xs ys : List Name) (vs : List ℕ) → IsTrue (pointwise same_name xs ys) → set_words ν xs vs ≡ set_words ν ys vs
+pub names_set : (ν : Values) (xs ys : List Name) (vs : List ℕ) → IsTrue (pointwise same_name xs ys) → set_words ν xs vs ≡ set_words ν ys vs
 names_set ν [] [] vs is = refl
 names_set ν (x ∷ xs) (y ∷ ys) [] is = refl
 names_set ν (x ∷ xs) (y ∷ ys) (v ∷ vs) is =
@@ -37,13 +37,13 @@ names_set ν [] (y ∷ ys) vs is = no is
 names_set ν (x ∷ xs) [] vs is = no is
 
 -- the parts of two signatures that are the same
-record SameParts (S T : Signature) : Type 0 where
+pub record SameParts (S T : Signature) : Type 0 where
   pub params : IsTrue (pointwise same_name S.params T.params)
   pub reserve : S.reserve ≡ T.reserve
   pub pre : IsTrue (same_assertion S.pre T.pre)
   pub post : IsTrue (same_assertion S.post T.post)
 
-parts_of : (S T : Signature) → IsTrue (same_signature S T) → SameParts S T
+pub parts_of : (S T : Signature) → IsTrue (same_signature S T) → SameParts S T
 parts_of S T is =
     let a = and_parts (same_name S.name T.name) _ is in
     let b = and_parts (pointwise same_name S.params T.params) _ a.1 in
@@ -102,7 +102,7 @@ module _ (w : World) (S T : Signature) (is : IsTrue (same_signature S T)) where
         (leaves_at_same ν s.regs.ebp (arguments S s) t.regs.eax t.memory F r.leaves);
   }
 
-module _ (few more : Decls) (x : Extends few more) (codes : ℕ → Option (List ℕ)) (labels : List ℕ → ℕ) where
+module _ (few more : Decls) (x : KeepsPredicates few more) (codes : ℕ → Option (List ℕ)) (labels : List ℕ → ℕ) where
   abbrev one : World
   one = record { decls = few; codes = codes; labels = labels }
 

@@ -18,5 +18,6 @@ pub mod Conditions
 pub mod Valid
 pub mod ConditionExamples
 pub mod ConditionLaws
+pub mod DeclarationLaws
 pub mod SoundExamples
 pub mod BodyExamples

@@ -1,7 +1,8 @@
 //! Images and lengths of whole texts. Their bytes were made by hand and by another program, from the rows of the table alone.
 use bed_lang::{List, Module, Name};
 use bed_read::read_module;
-use bed_table::{code_length, image, size_laws};
+use bed_table::laws::sizes;
+use bed_table::{code_length, image};
 use std::alloc::{AllocError, Global};
 use std::test::Fail;
 
@@ -243,7 +244,7 @@ fn has_image(
 #[test]
 fn texts_have_their_images(rt: HostRuntime) -> Result<(), Fail> {
     let alloc = rt.alloc();
-    size_laws();
+    sizes();
     for (text, wanted) in &IMAGES {
         assert!(rt; has_image(alloc, *text, &[], *wanted)?);
     }
