@@ -1,5 +1,6 @@
 -- Declarations of one module among those of all: what holds under the ones holds under the others.
-use Rattle.std.proofs.Common.{◌≡◌, ℕ, zero, suc, ◌+◌, ◌*◌, ◌<◌, Bool, true, false, IsTrue, cond, Option, Some, None, is_some, List, [], ◌∷◌, ◌++◌, map, length, take, find, bytes_eq, list_all, slice_get, Contains, refl, sym, ◌∙◌, ap, ap₂, subst, arith, bit_and}
+use Rattle.std.proofs.Common.{◌≡◌, ℕ, zero, suc, ◌+◌, ◌*◌, ◌<◌, Bool, true, false, IsTrue, cond, Option, Some, None, is_some, List, [], ◌∷◌, ◌++◌, map, length, take, find, bytes_eq, slice_get, inl, inr, Contains, refl, sym, ◌∙◌, ap, ap₂, subst, arith, bit_and}
+use Rattle.std.specs.List.{list_all}
 use Rattle.std.specs.Cmp.Lexicographic.{pointwise}
 use Rattle.std.proofs.lemmas.Bool.{and_parts}
 use Rattle.std.proofs.lemmas.List.Elements.{Contains-append_left, Contains-append_right, Contains-append_cases}
@@ -46,7 +47,7 @@ no e = absurd cc
 -- ---- look-ups
 
 -- what is found is in the list and passes the test
-found : {A : Type 0} (p : A → Bool) (xs : List A) (x : A) → find p xs ≡ Some x → Contains xs x × IsTrue (p x)
+pub found : {A : Type 0} (p : A → Bool) (xs : List A) (x : A) → find p xs ≡ Some x → Contains xs x × IsTrue (p x)
 found p [] x e = absurd cc
 found p (y ∷ xs) x e = by (p y) refl e (λ more. found p xs x more)
   where

@@ -1,4 +1,4 @@
--- Signatures: their places don't matter, and what a state meets under some declarations it meets under more.
+-- Signatures: their places don't matter.
 use Rattle.std.proofs.Common.{◌≡◌, ℕ, suc, ◌+◌, Bool, true, false, IsTrue, Option, List, [], ◌∷◌, length, refl, ◌∙◌, ap, subst, arith, ◌==◌}
 use Rattle.std.specs.Cmp.{unsigned_Decides}
 use Rattle.std.specs.Cmp.Lexicographic.{pointwise}
@@ -8,15 +8,13 @@ use Rattle.bed_machine.specs.Memory.{Memory}
 use Rattle.bed_machine.specs.Machine.{MachineState}
 use Rattle.bed_lang.specs.declared.word.Name.{Name}
 use Rattle.bed_lang.specs.declared.module.Signature.{Signature}
-use Rattle.bed_lang.specs.declared.condition.Decls.{Decls}
 use Rattle.bed_lang.specs.Same.{same_name, same_bind, same_assertion, same_signature}
 use Rattle.bed_lang.specs.Values.{Values, Named, Answer, set_word}
 use Rattle.bed_sat.specs.Cells.{IsBlock}
 use Rattle.bed_sat.specs.Assertions.{World, Holds}
 use Rattle.bed_sat.specs.Frames.{words_at, set_words, frame_size, arguments_at, arguments, EntersAt, LeavesAt, Enters, Returned}
-use Rattle.bed_sat.specs.Declarations.{KeepsPredicates}
 use Rattle.bed_sat.proofs.FrameLaws.{bytes_eq_is}
-use Rattle.bed_sat.proofs.SameLaws.{holds_same, holds_extends}
+use Rattle.bed_sat.proofs.SameLaws.{holds_same}
 
 no : {A : Type 0} → ◌≡◌ {A = Bool} false true → A
 no e = absurd cc
@@ -100,33 +98,4 @@ module _ (w : World) (S T : Signature) (is : IsTrue (same_signature S T)) where
     leaves =
         subst (λ args. LeavesAt w T ν s.regs.ebp args t.regs.eax t.memory F) (arguments_same s.regs.ebp s.memory)
         (leaves_at_same ν s.regs.ebp (arguments S s) t.regs.eax t.memory F r.leaves);
-  }
-
-module _ (few more : Decls) (x : KeepsPredicates few more) (codes : ℕ → Option (List ℕ)) (labels : List ℕ → ℕ) where
-  abbrev one : World
-  one = record { decls = few; codes = codes; labels = labels }
-
-  abbrev all : World
-  all = record { decls = more; codes = codes; labels = labels }
-
-  pub enters_extends : (S : Signature) (ν : Values) (sp : ℕ) (args : List ℕ) (m F : Memory) → EntersAt one S ν sp args m F → EntersAt all S ν sp args m F
-  enters_extends S ν sp args m F en = record {
-    frame = en.frame;
-    heap = en.heap;
-    parts = en.parts;
-    back = en.back;
-    area = en.area;
-    args_count = en.args_count;
-    area_count = en.area_count;
-    is_frame = en.is_frame;
-    pre = holds_extends few more x codes labels _ en.heap S.pre en.pre;
-  }
-
-  pub leaves_extends : (S : Signature) (ν : Values) (sp : ℕ) (args : List ℕ) (answer : ℕ) (m F : Memory) → LeavesAt one S ν sp args answer m F → LeavesAt all S ν sp args answer m F
-  leaves_extends S ν sp args answer m F l = record {
-    frame = l.frame;
-    heap = l.heap;
-    parts = l.parts;
-    is_frame = l.is_frame;
-    post = holds_extends few more x codes labels _ l.heap S.post l.post;
   }
