@@ -5,11 +5,13 @@ ghost use Rattle.bed_lang.specs.Numbers.{word_bytes};
 ghost use Rattle.bed_table.specs.Words.{displacement as displacement_of};
 ghost use Rattle.bed_table.specs.CodeTable as table;
 ghost use Rattle.bed_table.specs.ListLoops.{not_null, is_key, field_at};
-ghost use Rattle.bed_table.specs.ListParts.{list_front, list_back};
+ghost use Rattle.bed_table.specs.CodeParts.{list_front, list_back};
 
 use crate::put::{put_code, put_word};
 use crate::scope::Scope;
-use crate::size::{operand_size, small_arguments_size, test_size};
+use crate::size::{
+    JUMP, LIST_HEAD, key_test_size, operand_size, small_arguments_size, test_size,
+};
 use bed_lang::{Name, Op, Operand, Place, Rel, Test};
 use std::alloc::AllocError;
 
@@ -53,7 +55,7 @@ pub(crate) fn put_jump(out: &mut Vec<u8>, at: u64, target: u64) -> Result<(), Al
     requires target_is_address { target ≤ 4294967296 }
     ensures { OnOk result (out.new.items ≡ out.old.items ++ table.jump_bytes at target) }
 {
-    put_code(out, &[0xE9], displacement(at + 5, target))
+    put_code(out, &[0xE9], displacement(at + JUMP, target))
 }
 
 // Appends a jump, where control comes to it.
@@ -286,7 +288,7 @@ impl Scope<'_> {
         requires target_is_address { target ≤ 4294967296 }
         ensures { OnOk result (out.new.items ≡ out.old.items ++ table.test_bytes (names_in self.now) (labels_in self.now) (is_key value.now key.now) at target) }
     {
-        let next = at + 14 + operand_size(key);
+        let next = at + key_test_size(key);
         self.put_local_into_ecx(out, value)?;
         self.put_into_edx(out, key)?;
         put_comparison(out, Rel::Equal, next, target)
@@ -355,7 +357,7 @@ impl Scope<'_> {
         ensures { OnOk result (out.new.items ≡ out.old.items ++ list_front (names_in self.now) (labels_in self.now) node.now value.now list.now at end) }
     {
         self.put_copy(out, node, list)?;
-        self.put_null_test(out, node, at + 12, end)?;
+        self.put_null_test(out, node, at + LIST_HEAD, end)?;
         self.put_field(out, value, node, 0)
     }
 
