@@ -1,18 +1,17 @@
 -- The code of statements, put together from its parts.
-use Rattle.std.proofs.Common.{◌≡◌, ℕ, suc, ◌+◌, ◌<◌, ◌≤◌, Bool, true, false, Result, Ok, Err, OnOk, List, [], ◌∷◌, ◌++◌, map, length, drop, get_or, refl, sym, ◌∙◌, ap, ap₂, subst, arith, append_assoc, add-one, drop-cons}
+use Rattle.std.proofs.Common.{◌≡◌, ℕ, suc, ◌+◌, ◌<◌, ◌≤◌, Bool, Result, Ok, Err, OnOk, List, ◌∷◌, ◌++◌, map, length, drop, get_or, sym, ◌∙◌, ap, ap₂, arith, append_assoc, add-one, drop-cons}
 use Rattle.std.proofs.lemmas.List.{append-nil}
 use Rattle.bed_lang.specs.declared.word.Name.{Name}
 use Rattle.bed_lang.specs.declared.module.Operand.{Operand}
 use Rattle.bed_lang.specs.declared.module.Operand.TheVariants.{Local}
-use Rattle.bed_lang.specs.declared.word.Seq.{Seq}
 use Rattle.bed_lang.specs.declared.module.Test.{Test}
 use Rattle.bed_lang.specs.declared.logic.Assertion.{Assertion}
-use Rattle.bed_lang.specs.declared.statement.Stmt.{Stmt, Stmt-F, fold_out-Stmt}
+use Rattle.bed_lang.specs.declared.statement.Stmt.{Stmt, fold_out-Stmt}
 use Rattle.bed_lang.specs.declared.statement.StmtKind.{StmtKind, StmtKind-F, fold-roll-StmtKind, If, While, Find, Walk}
 use Rattle.bed_lang.specs.declared.statement.StmtKind.TheVariants.{rolls-If, rolls-While, rolls-Find, rolls-Walk}
-use Rattle.bed_table.specs.Pieces.{Piece, nothing, sequence, size_of, bytes_of, falls_after}
+use Rattle.bed_table.specs.Pieces.{Piece, nothing, size_of, bytes_of}
 use Rattle.bed_table.specs.CodeTable.{assignment, load, into_edx, arguments_size, arguments_bytes, transfer_bytes, call, operand_size, test_size, test_bytes, jump_size, jump_if, jump_bytes, choice, loop}
-use Rattle.bed_table.specs.ListLoops.{list_loop, finding, walking, list_invariant, not_yet, not_null, is_key, field_at}
+use Rattle.bed_table.specs.ListLoops.{list_loop, finding, walking, is_key, field_at}
 use Rattle.bed_table.specs.CodeParts.{guarded, list_front, list_back}
 use Rattle.bed_table.specs.Code.{kind_row, statement_row, kind_piece, piece, body_piece}
 

@@ -1,5 +1,5 @@
 -- The image of modules reads no assertion, hint or predicate: it is that of their skeletons.
-use Rattle.std.proofs.Common.{◌≡◌, ℕ, ◌+◌, Bool, true, Option, Some, None, List, [], ◌∷◌, ◌++◌, map, length, codes, bytes_eq, if◌then◌else◌, ◌&&◌, ◌||◌, refl, sym, ◌∙◌, ap, ap₂, subst, arith}
+use Rattle.std.proofs.Common.{◌≡◌, ℕ, ◌+◌, Bool, true, List, [], ◌∷◌, ◌++◌, map, length, codes, bytes_eq, if◌then◌else◌, ◌&&◌, ◌||◌, refl, sym, ◌∙◌, ap, ap₂, subst}
 use Rattle.std.proofs.lemmas.List.{map-append}
 use Rattle.bed_lang.specs.declared.word.Name.{Name}
 use Rattle.bed_lang.specs.declared.word.Seq.{Nil}
@@ -17,9 +17,9 @@ use Rattle.bed_lang.specs.Skeletons.{no_assertion, no_hint, join_skeleton, kind_
 use Rattle.bed_table.specs.Pieces.{Piece, Head, nothing, sequence, falls_after, size_of, bytes_of, heads_of}
 use Rattle.bed_table.specs.CodeTable.{assignment, load, choice, loop, test_size, jump_size, entry}
 use Rattle.bed_table.specs.ListLoops.{list_invariant, not_yet, list_loop, not_null, is_key, field_at}
-use Rattle.bed_table.specs.Code.{kind_row, statement_row, kind_piece, piece, body_piece, params_of, locals_of, function_piece}
-use Rattle.bed_table.specs.Layout.{Defined, define, defined_in, all_defined, Placed, function_size, placed_from, placed, total_size, code_length, Label, address_of, function_label, import_label, all_labels, label_address, code_of, code, heads_at, exports, imported, is_among, outside_names, outside_imports}
-use Rattle.bed_table.specs.Image.{Symbol, short, loop_symbols, function_symbols, symbols_of, import_symbols, symbols, table_bytes, image}
+use Rattle.bed_table.specs.Code.{kind_row, statement_row, kind_piece, piece, body_piece, params_of, function_piece}
+use Rattle.bed_table.specs.Layout.{Defined, define, defined_in, all_defined, Placed, function_size, placed_from, placed, total_size, code_length, address_of, function_label, import_label, all_labels, label_address, code_of, code, heads_at, exports, imported, is_among, outside_names, outside_imports}
+use Rattle.bed_table.specs.Image.{short, loop_symbols, function_symbols, symbols_of, import_symbols, symbols, table_bytes, image}
 use Rattle.bed_table.specs.Laws.{ImagesReadSkeletons, CodeReadsSkeletons}
 
 -- ---- pieces without their invariants

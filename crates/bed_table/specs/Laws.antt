@@ -8,9 +8,9 @@ use Rattle.bed_lang.specs.declared.statement.StmtKind.{StmtKind-F, map-StmtKind,
 use Rattle.bed_lang.specs.declared.module.Operand.{Operand}
 use Rattle.bed_lang.specs.Skeletons.{skeleton}
 use Rattle.bed_table.specs.CodeTable.{operand_size}
-use Rattle.bed_table.specs.Pieces.{Piece, Head, sequence}
+use Rattle.bed_table.specs.Pieces.{Piece}
 use Rattle.bed_table.specs.Code.{kind_row, piece, body_piece, function_piece}
-use Rattle.bed_table.specs.Layout.{Defined, Placed, placed, placed_from, all_defined, code_of, code, total_size, code_length}
+use Rattle.bed_table.specs.Layout.{Defined, all_defined, code, code_length}
 use Rattle.bed_table.specs.Image.{image}
 
 -- a piece has as many bytes as it says, wherever it stands and whatever the labels are

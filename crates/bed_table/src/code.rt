@@ -173,6 +173,7 @@ fn put_function(out: &mut Vec<u8>, labels: &[Known], at: u64, item: &Item) -> Re
         locals: item.function.locals.as_slice(),
         labels,
     };
+    // mov [ebp+0], esi
     put_code(out, &[0x89, 0xB5], 0)?;
     put_body(out, &scope, at + ENTRY, item.function.body.as_slice())
 }

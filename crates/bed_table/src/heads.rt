@@ -3,8 +3,8 @@ ghost use Rattle.std.specs.Prelude.{◌≡◌, ◌+◌, ◌≤◌, ◌∷◌, �
 ghost use Rattle.bed_table.specs.Code.{kind_piece, body_piece};
 
 use crate::size::{
-    LIST_FRONT, LIST_HEAD, body_falls, jump_size, key_test_size, small_body_size,
-    small_kind_size, test_size,
+    LIST_FRONT, LIST_HEAD, body_falls, jump_size, key_test_size, small_body_size, small_kind_size,
+    test_size,
 };
 use bed_lang::{Stmt, StmtKind};
 use std::alloc::AllocError;

@@ -9,9 +9,11 @@ use bed_lang::{Op, Operand, Stmt, StmtKind, Test};
 pub(crate) const JUMP: u64 = 5;
 // The bytes of a loop over a list before its head, and before what is done at a node.
 pub(crate) const LIST_HEAD: u64 = 12;
+
 pub(crate) const LIST_FRONT: u64 = 49;
 // The bytes that go on to the next node, without the jump back to the head and with it.
 pub(crate) const LIST_STEP: u64 = 30;
+
 pub(crate) const LIST_BACK: u64 = 35;
 // The bytes of the entry of a function.
 pub(crate) const ENTRY: u64 = 6;
