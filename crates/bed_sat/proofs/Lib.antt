@@ -15,12 +15,16 @@ pub mod ProgramExamples
 pub mod ComparisonLaws
 pub mod InstanceLaws
 pub mod SignatureLaws
+mod ExtensionLaws
+mod StartLaws
 pub mod LinkingLaws
 pub mod ConditionLaws
 pub mod ConditionExamples
+mod ListLoopExamples
 pub mod ValidExamples
 pub mod RefutedExamples
 pub mod WrittenLaws
+mod WrittenParts
 pub mod PathLaws
 pub mod WrittenCode
 pub mod SoundExamples

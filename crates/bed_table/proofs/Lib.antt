@@ -1,4 +1,5 @@
 pub mod SizeLaws
+mod SkeletonLaws
 pub mod CodeLemmas
 pub mod LayoutLemmas
 pub mod StepLemmas

@@ -1,6 +1,6 @@
 use Rattle.bed_table.proofs.SizeLaws.{statements_are_sized, bodies_are_sized, bodies_are_sequences, functions_are_sized, code_is_sized}
 use Rattle.bed_table.proofs.ReturnLaws.{returns_are_sized, returns_are_short}
-use Rattle.bed_table.proofs.laws.size_laws.Goals as goal
+use Rattle.bed_table.proofs.laws.sizes.Goals as goal
 
 pub returns : goal.returns
 returns c = record {
