@@ -208,9 +208,9 @@ image_has_code : (ms : List Module) → HasCode (image ms base []) (linked ms ba
 image_has_code ms = (
   codes "BIM1" ++ (word_bytes base ++ (word_bytes (code_length ms) ++ (word_bytes (length (symbols ms base [])) ++ table_bytes (symbols ms base [])))),
   sym (append_assoc (codes "BIM1") (word_bytes base ++ (word_bytes (code_length ms) ++ (word_bytes (length (symbols ms base [])) ++ table_bytes (symbols ms base [])))) (code ms base [])
-    ∙ ap (λ bytes. codes "BIM1" ++ bytes) (append_assoc (word_bytes base) (word_bytes (code_length ms) ++ (word_bytes (length (symbols ms base [])) ++ table_bytes (symbols ms base []))) (code ms base [])
-    ∙ ap (λ bytes. word_bytes base ++ bytes) (append_assoc (word_bytes (code_length ms)) (word_bytes (length (symbols ms base [])) ++ table_bytes (symbols ms base [])) (code ms base [])
-    ∙ ap (λ bytes. word_bytes (code_length ms) ++ bytes) (append_assoc (word_bytes (length (symbols ms base []))) (table_bytes (symbols ms base [])) (code ms base []))))),
+      ∙ ap (λ bytes. codes "BIM1" ++ bytes) (append_assoc (word_bytes base) (word_bytes (code_length ms) ++ (word_bytes (length (symbols ms base [])) ++ table_bytes (symbols ms base []))) (code ms base [])
+      ∙ ap (λ bytes. word_bytes base ++ bytes) (append_assoc (word_bytes (code_length ms)) (word_bytes (length (symbols ms base [])) ++ table_bytes (symbols ms base [])) (code ms base [])
+      ∙ ap (λ bytes. word_bytes (code_length ms) ++ bytes) (append_assoc (word_bytes (length (symbols ms base []))) (table_bytes (symbols ms base [])) (code ms base []))))),
 )
 
 module _ (words : List (List ℕ)) (old new : FilesState) (sink_old sink_new : SinkState) (result : Status) (ran : Ran words old new sink_old sink_new result) where
