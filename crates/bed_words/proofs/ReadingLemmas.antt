@@ -13,7 +13,7 @@ use Rattle.bed_words.specs.Values.{number_of, import_of, block_of, size_of}
 use Rattle.bed_words.specs.Options.{is_option, takes, names_file, fits, IsOnceEach, AreOptions}
 use Rattle.bed_words.specs.Commands.{IsPlain, command_of, generates}
 use Rattle.bed_words.specs.Reading.{may_come, lacks, lawful_plain, or_wrong, read_plain, read_files, later, read_last, read_two, read_options}
-use Rattle.bed_words.proofs.OptionLaws.{IsPaired, paired-two, is_given-last, once-two, once-may_come}
+use Rattle.bed_words.proofs.OptionLemmas.{IsPaired, paired-two, is_given-last, once-two, once-may_come}
 
 -- one step of the reading
 module _ (v : Verb) (before : List (List ℕ)) where

@@ -7,8 +7,8 @@ use Rattle.bed_words.specs.declared.command.Command.{Command}
 use Rattle.bed_words.specs.declared.command.CommandError.{CommandError}
 use Rattle.bed_words.specs.declared.command.CommandError.TheVariants as error
 use Rattle.bed_words.specs.Reading.{lacks, read_plain, read_files, read_options, later, Gives, wrong_word, moved}
-use Rattle.bed_words.proofs.ReadingLaws.{read, within, plain-within}
-use Rattle.bed_words.proofs.LoopLaws.{rest_is}
+use Rattle.bed_words.proofs.ReadingLemmas.{read, within, plain-within}
+use Rattle.bed_words.proofs.LoopLemmas.{rest_is}
 
 later-moved : (r : Result Command ℕ) (n : ℕ) (e : CommandError) → Gives r (Err e) → Gives (later n r) (Err (moved e n))
 later-moved r n (error.Usage i) g = ap (later n) g

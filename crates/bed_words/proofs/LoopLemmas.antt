@@ -9,7 +9,7 @@ use Rattle.bed_words.specs.declared.command.Command.{Command}
 use Rattle.bed_words.specs.Options.{times, is_option, fits}
 use Rattle.bed_words.specs.Commands.{value_of, values_of, IsPlain}
 use Rattle.bed_words.specs.Reading.{read_plain, read_files, read_options, later, may_come}
-use Rattle.bed_words.proofs.ReadingLaws.{read-plain_words, read-refused, read-open, read-unfit, read-further}
+use Rattle.bed_words.proofs.ReadingLemmas.{read-plain_words, read-refused, read-open, read-unfit, read-further}
 
 module _ {X : Type 0} (f : X → List ℕ) where
   pub times-short : (name : List ℕ) (xs : List X) → length xs < 2 → times name (map f xs) ≡ 0
