@@ -26,7 +26,8 @@ use Rattle.bed_lang.specs.declared.statement.StmtKind.TheVariants.{rolls-Assign,
 use Rattle.bed_lang.specs.declared.condition.Decls.{Decls}
 use Rattle.bed_names.specs.Bare.{arg_is_resolved, atom_is_resolved, term_is_resolved, assertion_is_resolved, hint_is_resolved, join_is_resolved, kind_test, stmt_test, kind_is_resolved, stmt_is_resolved, signature_is_resolved, predicate_is_resolved, function_is_resolved}
 use Rattle.bed_lang.specs.Declarations.{declarations}
-use Rattle.bed_names.specs.Declarations.{signature_named, predicate_named, sequences}
+use Rattle.bed_lang.specs.Lookups.{signature_named, predicate_named}
+use Rattle.bed_names.specs.Names.{sequences}
 use Rattle.bed_names.specs.Laws.{NoBareArgumentIsLeft}
 use Rattle.bed_names.specs.Modules.{plain, signature_names, function_visible}
 use Rattle.bed_names.specs.Resolved.{bare_sort, bare_variable, variable_arg, resolved_arg, resolved_args, resolved_atom, resolved_term, resolved_assertion, resolved_hint, resolved_join, resolved_keep, resolved_step, resolved_stmt_step, resolved_kind, resolved_stmt, resolved_signature, resolved_predicate, resolved_function}
@@ -53,8 +54,8 @@ args_made v ps (a ∷ more) =
     (arg_made v (first_sort ps) a) (args_made v (behind_first ps) more)
 
 applied_made : (v : Visible) (x : Name) (as' : List Arg)
-    → list_all arg_is_resolved (resolved_args v (asked_by (predicate_named v.decls x) as') as') ≡ true
-applied_made v x as' = args_made v (asked_by (predicate_named v.decls x) as') as'
+    → list_all arg_is_resolved (resolved_args v (asked_by (predicate_named v.decls x.bytes) as') as') ≡ true
+applied_made v x as' = args_made v (asked_by (predicate_named v.decls x.bytes) as') as'
 
 atom_made : (v : Visible) (a : Atom) → atom_is_resolved (resolved_atom v a) ≡ true
 atom_made v (atom.Pred x as') = applied_made v x as'
@@ -167,7 +168,7 @@ predicate_made d p =
 
 function_made : (d : Decls) (f : Function) → function_is_resolved (resolved_function d f) ≡ true
 function_made d f =
-    let v : Visible = function_visible d (signature_named d f.signature) f in
+    let v : Visible = function_visible d (signature_named d f.signature.bytes) f in
     all_made stmt_is_resolved (resolved_stmt v) (stmt_made v) f.body
 
 pub no_bare_argument_is_left : NoBareArgumentIsLeft

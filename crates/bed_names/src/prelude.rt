@@ -134,27 +134,38 @@ fn longer_binders(alloc: Global) -> Result<List<Bind>, AllocError>
     three(alloc, value, next, rest)
 }
 
+// [p != 0]
+fn is_node(alloc: Global) -> Result<Pure, AllocError>
+    ensures { IfOk result (λ p. p ≡ pure.Unequal (word_of (codes "p")) (Number 0)) }
+{
+    Ok(Pure::Unequal(word(alloc, b"p")?, Word::Number(0)))
+}
+
+// p |-> v
+fn value_cell(alloc: Global) -> Result<Atom, AllocError>
+    ensures { IfOk result (λ a. a ≡ atom.Cell (word_of (codes "p")) (word_of (codes "v"))) }
+{
+    Ok(Atom::Cell(word(alloc, b"p")?, word(alloc, b"v")?))
+}
+
+// lseg(n, q, t)
+fn rest_segment(alloc: Global) -> Result<Term, AllocError>
+    ensures { IfOk result (λ t. t ≡ segment_of (word_of (codes "n")) (word_of (codes "q")) (sequence_of (codes "t"))) }
+{
+    let first = word(alloc, b"n")?;
+    let end = word(alloc, b"q")?;
+    let elements = sequence(alloc, b"t")?;
+    segment(alloc, first, end, elements)
+}
+
 fn longer_terms(alloc: Global) -> Result<List<Term>, AllocError>
     ensures { IfOk result (λ ts. ts ≡ the_longer_segment.terms) }
 {
-    let is_node = Pure::Unequal(word(alloc, b"p")?, Word::Number(0));
-    let begins = begins(alloc)?;
-    let value = Atom::Cell(word(alloc, b"p")?, word(alloc, b"v")?);
-    let next = next_cell(alloc)?;
-    let rest = segment(
-        alloc,
-        word(alloc, b"n")?,
-        word(alloc, b"q")?,
-        sequence(alloc, b"t")?,
-    )?;
-    let mut terms = three(
-        alloc,
-        Term::Pure(is_node),
-        Term::Pure(begins),
-        Term::Atom(value),
-    )?;
-    terms.push(Term::Atom(next))?;
-    terms.push(rest)?;
+    let mut terms = one(alloc, Term::Pure(is_node(alloc)?))?;
+    terms.push(Term::Pure(begins(alloc)?))?;
+    terms.push(Term::Atom(value_cell(alloc)?))?;
+    terms.push(Term::Atom(next_cell(alloc)?))?;
+    terms.push(rest_segment(alloc)?)?;
     Ok(terms)
 }
 

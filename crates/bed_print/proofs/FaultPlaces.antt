@@ -27,7 +27,8 @@ use Rattle.bed_lang.specs.declared.module.Hint.TheVariants as hint
 use Rattle.bed_names.specs.declared.error.NameError.{NameError}
 use Rattle.bed_names.specs.declared.error.NameError.TheVariants.{Twice, Unknown, Sort as OfOtherSort, Arity, Dead, MissingJoin, FallsOff, StackRoom, Memory}
 use Rattle.bed_names.specs.Faults.{fault_if, all_faults}
-use Rattle.bed_names.specs.Declarations.{signature_named, predicate_named, label_named, is_among, sort_of}
+use Rattle.bed_lang.specs.Lookups.{signature_named, predicate_named, label_signature}
+use Rattle.bed_names.specs.Names.{is_among, sort_of}
 use Rattle.bed_names.specs.Terms.{Visible, with_names, is_hole, sort_faults, found_faults, word_faults_if, asked_by, has_other_number, first_sort, behind_first, name_faults, variable_faults, label_faults, signature_name_faults, word_step, word_faults, seq_step, seq_faults, bare_faults, arg_faults, args_faults, predicate_name_faults, applied_faults, pure_faults, atom_faults, term_faults, terms_faults, twice_after, twice_faults, bind_names, assertion_faults, option_faults, has_no_case, hint_faults, hints_faults}
 use Rattle.bed_print.proofs.Places.{bare_option, bare_name, bare_var, bare_word, bare_seq, bare_arg, bare_pure, bare_atom, bare_term, bare_bind, bare_assertion, bare_predicate, bare_hint}
 use Rattle.bed_print.proofs.BareRolls.{bare_word_layer, bare_word-roll, bare_seq_layer, bare_seq-roll}
@@ -203,7 +204,7 @@ module _ (v : Visible) where
       joined (predicate_name_bare x)
       (joined
       (tested (ap (λ o. has_other_number o (map bare_arg as')) (predicate_named_bare v.decls x) ∙ other_number_bare (predicate_named v.decls x) as') (Arity x.at))
-      (args_bare holes (asked_by (predicate_named v.decls x) as') _ as'
+      (args_bare holes (asked_by (predicate_named v.decls x.bytes) as') _ as'
       (ap (λ o. asked_by o (map bare_arg as')) (predicate_named_bare v.decls x) ∙ asked_by_bare (predicate_named v.decls x) as')))
 
   pub pure_bare : (p : Pure) → Unplaced (pure_faults v' (bare_pure p)) (pure_faults v p)

@@ -8,7 +8,8 @@ use Rattle.bed_lang.specs.declared.logic.Bind.{Bind}
 use Rattle.bed_lang.specs.declared.module.Signature.{Signature}
 use Rattle.bed_lang.specs.declared.module.Predicate.{Predicate}
 use Rattle.bed_lang.specs.declared.condition.Decls.{Decls}
-use Rattle.bed_names.specs.Declarations.{found, named_signatures, named_predicates, named_labels, signature_named, predicate_named, label_named, is_among, sort_of, words, sequences}
+use Rattle.bed_lang.specs.Lookups.{signature_named, predicate_named, label_signature}
+use Rattle.bed_names.specs.Names.{is_among, sort_of, words, sequences}
 use Rattle.bed_names.specs.Terms.{Visible, with_names, bind_names, asked_by, first_sort, behind_first}
 use Rattle.bed_print.proofs.Places.{bare_option, bare_name, bare_arg, bare_bind, bare_signature, bare_predicate}
 

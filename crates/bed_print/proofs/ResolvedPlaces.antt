@@ -26,7 +26,8 @@ use Rattle.bed_lang.specs.declared.statement.StmtKind.{StmtKind, StmtKind-F, rol
 use Rattle.bed_lang.specs.declared.statement.StmtKind.TheVariants.{rolls-Assign, rolls-Compute, rolls-Load, rolls-LoadByte, rolls-Store, rolls-StoreByte, rolls-Call, rolls-If, rolls-While, rolls-Return, rolls-Hint, rolls-Find, rolls-Walk}
 use Rattle.bed_lang.specs.declared.condition.Decls.{Decls}
 use Rattle.bed_lang.specs.Declarations.{declarations}
-use Rattle.bed_names.specs.Declarations.{signature_named, predicate_named, sequences}
+use Rattle.bed_lang.specs.Lookups.{signature_named, predicate_named}
+use Rattle.bed_names.specs.Names.{sequences}
 use Rattle.bed_names.specs.Terms.{Visible, with_names, is_hole, asked_by, first_sort, behind_first}
 use Rattle.bed_names.specs.Modules.{plain, signature_names, function_visible}
 use Rattle.bed_names.specs.Resolved.{bare_sort, bare_variable, variable_arg, resolved_arg, resolved_args, resolved_applied, resolved_atom, resolved_term, resolved_assertion, resolved_hint, resolved_join, resolved_keep, resolved_step, resolved_stmt_step, resolved_kind, resolved_stmt, resolved_signature, resolved_predicate, resolved_function, resolved_with, resolved}
@@ -71,7 +72,7 @@ module _ (v : Visible) where
 
   applied_bare : (x : Name) (xs : List Arg) → resolved_applied v' (bare_name x) (map bare_arg xs) ≡ map bare_arg (resolved_applied v x xs)
   applied_bare x xs =
-      args_bare (asked_by (predicate_named v.decls x) xs) _ xs
+      args_bare (asked_by (predicate_named v.decls x.bytes) xs) _ xs
       (ap (λ p. asked_by p (map bare_arg xs)) (predicate_named_bare v.decls x) ∙ asked_by_bare (predicate_named v.decls x) xs)
 
   atom_bare : (a : Atom) → resolved_atom v' (bare_atom a) ≡ bare_atom (resolved_atom v a)
@@ -268,8 +269,8 @@ module _ (d : Decls) where
   function_bare f =
       ap made
       (ap (λ v. map (resolved_stmt v) (map bare_stmt f.body))
-      (ap (λ s. function_visible d' s (bare_function f)) (own_signature_bare d f) ∙ function_visible_bare d (signature_named d f.signature) f)
-      ∙ maps_agree bare_stmt _ _ bare_stmt (stmt_bare (function_visible d (signature_named d f.signature) f)) f.body)
+      (ap (λ s. function_visible d' s (bare_function f)) (own_signature_bare d f) ∙ function_visible_bare d (signature_named d f.signature.bytes) f)
+      ∙ maps_agree bare_stmt _ _ bare_stmt (stmt_bare (function_visible d (signature_named d f.signature.bytes) f)) f.body)
     where
       made : List Stmt → Function
       made body = record (bare_function f) { body = body }

@@ -17,7 +17,8 @@ use Rattle.bed_lang.specs.declared.condition.Decls.{Decls}
 use Rattle.bed_names.specs.declared.error.NameError.{NameError}
 use Rattle.bed_names.specs.declared.error.NameError.TheVariants.{Twice, Unknown, Arity, Dead, MissingJoin, StackRoom}
 use Rattle.bed_names.specs.Faults.{fault_if}
-use Rattle.bed_names.specs.Declarations.{label_named, sequences}
+use Rattle.bed_lang.specs.Lookups.{label_signature}
+use Rattle.bed_names.specs.Names.{sequences}
 use Rattle.bed_names.specs.Terms.{Visible, with_names}
 use Rattle.bed_names.specs.Statements.{Surroundings, frame, signature_of_label, callee, room_faults, callee_faults, is_local, operand_place, local_faults, operand_faults, operands_faults, test_faults, via_faults, assign_faults, compute_faults, move_faults, call_head_faults, call_faults, keep_faults, other_local_faults, key_faults, list_keep_faults, find_faults, walk_faults, Judged, falls_after, falls_through, faults_after, list_faults, straight, join_faults, kind_step, stmt_step, judged_kind, judged, body_falls, body_faults}
 use Rattle.bed_print.proofs.Places.{bare_option, bare_name, bare_seq, bare_assertion, bare_signature, bare_operand, bare_place, bare_test, bare_hint, bare_join, bare_kind_step, bare_stmt_step, bare_stmt_kind, bare_stmt}

@@ -24,7 +24,8 @@ use Rattle.bed_lang.specs.declared.statement.Stmt.{Stmt, Stmt-F, fold-Stmt}
 use Rattle.bed_lang.specs.declared.statement.StmtKind.{StmtKind, StmtKind-F, fold-StmtKind, Assign, Compute, Load, LoadByte, Store, StoreByte, Call, If, While, Return, Hint as HintStmt, Find, Walk}
 use Rattle.bed_lang.specs.declared.condition.Decls.{Decls}
 use Rattle.bed_lang.specs.Declarations.{declarations}
-use Rattle.bed_names.specs.Declarations.{signature_named, predicate_named, sequences}
+use Rattle.bed_lang.specs.Lookups.{signature_named, predicate_named}
+use Rattle.bed_names.specs.Names.{sequences}
 use Rattle.bed_names.specs.Terms.{Visible, with_names, is_hole, asked_by, first_sort, behind_first}
 use Rattle.bed_names.specs.Modules.{plain, signature_names, function_visible}
 use Rattle.bed_names.specs.Resolved.{bare_sort}
@@ -45,7 +46,7 @@ worded_args v ps (a ∷ more) = worded_arg v (first_sort ps) a ∷ worded_args v
 
 -- the arguments of a predicate
 abbrev pub worded_applied : Visible → Name → List Arg → List Arg
-worded_applied v x as' = worded_args v (asked_by (predicate_named v.decls x) as') as'
+worded_applied v x as' = worded_args v (asked_by (predicate_named v.decls x.bytes) as') as'
 
 abbrev pub worded_atom : Visible → Atom → Atom
 worded_atom v (atom.Pred x as') = atom.Pred x (worded_applied v x as')
@@ -120,7 +121,7 @@ abbrev pub worded_predicate : Decls → Predicate → Predicate
 worded_predicate d p = record p { cases = map (worded_assertion (plain d p.params false)) p.cases }
 
 abbrev pub worded_function : Decls → Function → Function
-worded_function d f = record f { body = map (worded_stmt (function_visible d (signature_named d f.signature) f)) f.body }
+worded_function d f = record f { body = map (worded_stmt (function_visible d (signature_named d f.signature.bytes) f)) f.body }
 
 -- a module whose names stand for these declarations
 abbrev pub worded_with : Decls → Module → Module

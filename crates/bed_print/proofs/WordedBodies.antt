@@ -16,7 +16,8 @@ use Rattle.bed_lang.specs.declared.condition.Decls.{Decls}
 use Rattle.bed_names.specs.declared.error.NameError.{NameError}
 use Rattle.bed_names.specs.declared.error.NameError.TheVariants.{Twice, Dead, MissingJoin}
 use Rattle.bed_names.specs.Faults.{fault_if}
-use Rattle.bed_names.specs.Declarations.{signature_named, label_named, sequences}
+use Rattle.bed_lang.specs.Lookups.{signature_named, label_signature}
+use Rattle.bed_names.specs.Names.{sequences}
 use Rattle.bed_names.specs.Terms.{with_names, seq_faults, twice_faults, assertion_faults, hints_faults}
 use Rattle.bed_names.specs.Statements.{Surroundings, Judged, signature_of_label, callee, callee_faults, is_local, operand_place, local_faults, operand_faults, operands_faults, test_faults, via_faults, assign_faults, move_faults, call_head_faults, keep_faults, other_local_faults, key_faults, list_keep_faults, find_faults, walk_faults, falls_through, list_faults, straight, join_faults, kind_step, stmt_step, judged}
 use Rattle.bed_print.proofs.Worded.{worded_assertion, worded_hint, worded_join, worded_keep, worded_stmt}
@@ -74,11 +75,11 @@ module _ (d : Decls) (i : Surroundings) (same : SameDeclarations d i.visible.dec
   of_label (Some x) None e = absurd (cc)
   of_label (Some x) (Some y) e =
       let equal : x ≡ y = cc in
-      subst (λ z. SameSignatures (signature_named d x) (signature_named i.visible.decls z)) equal (same.signature x)
+      subst (λ z. SameSignatures (signature_named d x.bytes) (signature_named i.visible.decls z.bytes)) equal (same.signature x)
 
   callee_around : (target : Operand) (via : Option Name) → CalleeSame target via
   callee_around target (Some x) = same.signature x
-  callee_around (operand.Label f) None = of_label (label_named d f) (label_named i.visible.decls f) (same.label f)
+  callee_around (operand.Label f) None = of_label (label_signature d f.bytes) (label_signature i.visible.decls f.bytes) (same.label f)
   callee_around (operand.Number n) None = tt
   callee_around (operand.Local x) None = tt
 

@@ -25,7 +25,8 @@ use Rattle.bed_lang.specs.declared.statement.StmtKind.{StmtKind, StmtKind-F, map
 use Rattle.bed_lang.specs.declared.condition.Decls.{Decls}
 use Rattle.bed_lex.specs.declared.token.Kind.{Kind}
 use Rattle.bed_lex.specs.declared.token.Kind.TheVariants as kind
-use Rattle.bed_names.specs.Declarations.{sequences, signature_named}
+use Rattle.bed_lang.specs.Lookups.{signature_named}
+use Rattle.bed_names.specs.Names.{sequences}
 use Rattle.bed_names.specs.Terms.{Visible, with_names, is_hole, first_sort, behind_first}
 use Rattle.bed_names.specs.Modules.{plain, signature_names, function_visible}
 use Rattle.bed_names.specs.Resolved.{bare_sort, variable_arg, resolved_arg, resolved_args, resolved_term, resolved_assertion, resolved_hint, resolved_join, resolved_step, resolved_stmt_step, resolved_kind, resolved_stmt, resolved_signature, resolved_predicate, resolved_function, resolved_with}
@@ -242,7 +243,7 @@ predicate_same d p =
 
 function_same : (d : Decls) (f : Function) → function_kinds (worded_function d f) ≡ function_kinds (resolved_function d f)
 function_same d f =
-    ap (λ z. head_kinds f ++ (locals_kinds f.locals ++ body_of z)) (stmts_same (function_visible d (signature_named d f.signature) f) f.body)
+    ap (λ z. head_kinds f ++ (locals_kinds f.locals ++ body_of z)) (stmts_same (function_visible d (signature_named d f.signature.bytes) f) f.body)
 
 pub module_same : (d : Decls) (m : Module) → module_kinds (worded_with d m) ≡ module_kinds (resolved_with d m)
 module_same d m =

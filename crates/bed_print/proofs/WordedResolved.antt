@@ -24,7 +24,8 @@ use Rattle.bed_lang.specs.declared.statement.Stmt.{Stmt, fold-Stmt}
 use Rattle.bed_lang.specs.declared.statement.StmtKind.{StmtKind, StmtKind-F, Call, If, While, Hint as HintStmt, Find, Walk}
 use Rattle.bed_lang.specs.declared.condition.Decls.{Decls}
 use Rattle.bed_lang.specs.Declarations.{declarations}
-use Rattle.bed_names.specs.Declarations.{signature_named, predicate_named, sequences}
+use Rattle.bed_lang.specs.Lookups.{signature_named, predicate_named}
+use Rattle.bed_names.specs.Names.{sequences}
 use Rattle.bed_names.specs.Terms.{Visible, with_names, is_hole, asked_by, first_sort, behind_first}
 use Rattle.bed_names.specs.Modules.{plain, without_labels, signature_names, function_visible}
 use Rattle.bed_names.specs.Resolved.{bare_sort, bare_variable, variable_arg, resolved_arg, resolved_args, resolved_applied, resolved_atom, resolved_term, resolved_assertion, resolved_hint, resolved_join, resolved_keep, resolved_step, resolved_stmt_step, resolved_stmt, resolved_signature, resolved_predicate, resolved_function, resolved_with, resolved}
@@ -47,8 +48,8 @@ module _ (d : Decls) (v : Visible) (same : SameDeclarations d v.decls) where
 
   applied_under : (x : Name) (as' : List Arg) → resolved_applied (under d v) x as' ≡ resolved_applied v x as'
   applied_under x as' =
-      ap (λ ps. resolved_args (under d v) ps as') (asked_same (predicate_named d x) (predicate_named v.decls x) as' (same.predicate x))
-      ∙ args_under (asked_by (predicate_named v.decls x) as') as'
+      ap (λ ps. resolved_args (under d v) ps as') (asked_same (predicate_named d x.bytes) (predicate_named v.decls x.bytes) as' (same.predicate x))
+      ∙ args_under (asked_by (predicate_named v.decls x.bytes) as') as'
 
   atom_under : (a : Atom) → resolved_atom (under d v) a ≡ resolved_atom v a
   atom_under (atom.Pred x as') = ap (atom.Pred x) (applied_under x as')
@@ -141,7 +142,7 @@ module _ (v : Visible) where
 
   applied_worded : (x : Name) (as' : List Arg) → resolved_applied v x (worded_applied v x as') ≡ resolved_applied v x as'
   applied_worded x as' =
-      let o : Option Predicate = predicate_named v.decls x in
+      let o : Option Predicate = predicate_named v.decls x.bytes in
       let bs : List Arg = worded_args v (asked_by o as') as' in
       ap (λ ps. resolved_args v ps bs) (asked_length o bs as' (worded_length v (asked_by o as') as'))
       ∙ args_worded (asked_by o as') as'
@@ -242,9 +243,9 @@ module _ (d e : Decls) (same : SameDeclarations d e) where
 
   function_same : (f : Function) → resolved_function d (worded_function e f) ≡ resolved_function e f
   function_same f =
-      let v : Visible = function_visible e (signature_named e f.signature) f in
+      let v : Visible = function_visible e (signature_named e f.signature.bytes) f in
       ap (λ w. record f { body = map (resolved_stmt w) (map (worded_stmt v) f.body) })
-      (visible_same (signature_named d f.signature) (signature_named e f.signature) f (same.signature f.signature))
+      (visible_same (signature_named d f.signature.bytes) (signature_named e f.signature.bytes) f (same.signature f.signature))
       ∙ ap (λ body. record f { body = body })
       (each_item (resolved_stmt (under d v)) (resolved_stmt v) (worded_stmt v)
       (λ s. stmt_under d v same (worded_stmt v s) ∙ stmt_worded v s) f.body)

@@ -12,7 +12,7 @@ use Rattle.bed_lang.specs.declared.module.Module.{Module}
 use Rattle.bed_lang.specs.declared.condition.Decls.{Decls}
 use Rattle.bed_lang.specs.Prelude.{prelude}
 use Rattle.bed_lang.specs.Declarations.{labels_of, declarations}
-use Rattle.bed_names.specs.Declarations.{found, named_signatures, named_predicates, signature_named, predicate_named, label_named}
+use Rattle.bed_lang.specs.Lookups.{signature_named, predicate_named, label_signature}
 use Rattle.bed_names.specs.Terms.{Visible, asked_by, behind_first, has_other_number, has_no_case}
 use Rattle.bed_names.specs.Modules.{plain, without_labels}
 use Rattle.bed_print.proofs.Worded.{worded_signature, worded_predicate, worded_function, worded_assertion, worded_args, worded_with}
@@ -33,9 +33,9 @@ SameSignatures (Some s) (Some t) = (s.params ≡ t.params) × (s.logical ≡ t.l
 
 -- declarations under which names stand for the same, assertions aside
 pub record SameDeclarations (d e : Decls) : Type 0 where
-  pub signature : (x : Name) → SameSignatures (signature_named d x) (signature_named e x)
-  pub predicate : (x : Name) → SamePredicates (predicate_named d x) (predicate_named e x)
-  pub label : (x : Name) → label_named d x ≡ label_named e x
+  pub signature : (x : Name) → SameSignatures (signature_named d x.bytes) (signature_named e x.bytes)
+  pub predicate : (x : Name) → SamePredicates (predicate_named d x.bytes) (predicate_named e x.bytes)
+  pub label : (x : Name) → label_signature d x.bytes ≡ label_signature e x.bytes
 
 pub without_labels_same : (d e : Decls) → SameDeclarations d e → SameDeclarations (without_labels d) (without_labels e)
 without_labels_same d e same = record { signature = same.signature; predicate = same.predicate; label = λ x. refl }

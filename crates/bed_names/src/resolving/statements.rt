@@ -19,6 +19,45 @@ fn join(alloc: Global, outer: &Outer, join: &Option<Join>) -> Result<Option<Join
     }
 }
 
+// Copies of two names.
+pub(crate) fn names(alloc: Global, x: &Name, y: &Name) -> Result<(Name, Name), AllocError>
+    ensures { IfOk result (λ r. r ≡ (x.now, y.now)) }
+{
+    let first = x.copy(alloc)?;
+    let second = y.copy(alloc)?;
+    Ok((first, second))
+}
+
+// Where a call's result goes, what it calls, and with which arguments.
+fn called(
+    alloc: Global,
+    into: &Name,
+    target: &Operand,
+    args: &List<Operand>,
+) -> Result<(Name, Operand, List<Operand>), AllocError>
+    ensures { IfOk result (λ r. r ≡ (into.now, target.now, args.now)) }
+{
+    let into = into.copy(alloc)?;
+    let target = target.copy(alloc)?;
+    let args = args.copied(alloc)?;
+    Ok((into, target, args))
+}
+
+// The hints of a call, and what holds after it.
+fn used_and_after(
+    alloc: Global,
+    outer: &Outer,
+    used: &List<Hint>,
+    after: &Assertion,
+) -> Result<(List<Hint>, Assertion), AllocError>
+    ensures used { IfOk result (λ r. r.0 ≡ map (resolved_hint outer.now) used.now) }
+    ensures after { IfOk result (λ r. r.1 ≡ resolved_assertion outer.now after.now) }
+{
+    let hints = hints(alloc, outer, used.as_slice())?;
+    let after = assertion(alloc, outer, after)?;
+    Ok((hints, after))
+}
+
 fn resolve_call(
     alloc: Global,
     outer: &Outer,
@@ -32,14 +71,17 @@ fn resolve_call(
 ) -> Result<StmtKind, AllocError>
     ensures { IfOk result (λ r. r ≡ StmtKind.Call place into.now target.now via.now args.now (map (resolved_hint outer.now) used.now) (resolved_assertion outer.now after.now)) }
 {
-    let hints = hints(alloc, outer, used.as_slice())?;
-    let after = assertion(alloc, outer, after)?;
+    let heads = called(alloc, into, target, args)?;
+    let ends = used_and_after(alloc, outer, used, after)?;
+    let via = via.copied(alloc)?;
+    let (into, target, args) = heads;
+    let (hints, after) = ends;
     Ok(StmtKind::Call {
         place,
-        into: into.copy(alloc)?,
-        target: target.copy(alloc)?,
-        via: via.copied(alloc)?,
-        args: args.copied(alloc)?,
+        into,
+        target,
+        via,
+        args,
         hints,
         after,
     })
@@ -83,29 +125,29 @@ fn resolve_while(
     })
 }
 
-// What `find` and `walk` go over: the list, its elements, and the names of those seen and of the rest.
-fn over(
-    alloc: Global,
-    list: &Name,
-    seq: &Seq,
-    seen: &Name,
-    rest: &Name,
-) -> Result<(Name, Seq, Name, Name), AllocError>
-    ensures { IfOk result (λ r. r ≡ (list.now, seq.now, seen.now, rest.now)) }
+// The list that `find` and `walk` go over, and its elements.
+fn list_of(alloc: Global, list: &Name, seq: &Seq) -> Result<(Name, Seq), AllocError>
+    ensures { IfOk result (λ r. r ≡ (list.now, seq.now)) }
 {
-    Ok((
-        list.copy(alloc)?,
-        seq.copy(alloc)?,
-        seen.copy(alloc)?,
-        rest.copy(alloc)?,
-    ))
+    let list = list.copy(alloc)?;
+    let seq = seq.copy(alloc)?;
+    Ok((list, seq))
 }
 
-// The two locals that `find` and `walk` set.
-fn locals(alloc: Global, node: &Name, value: &Name) -> Result<(Name, Name), AllocError>
-    ensures { IfOk result (λ r. r ≡ (node.now, value.now)) }
+// The names of the elements seen and of the rest, and what is kept.
+fn keep_of(
+    alloc: Global,
+    outer: &Outer,
+    seen: &Name,
+    rest: &Name,
+    keep: &Assertion,
+) -> Result<((Name, Name), Assertion), AllocError>
+    ensures names { IfOk result (λ r. r.0 ≡ (seen.now, rest.now)) }
+    ensures keep { IfOk result (λ r. r.1 ≡ resolved_keep outer.now seen.now rest.now keep.now) }
 {
-    Ok((node.copy(alloc)?, value.copy(alloc)?))
+    let keep = kept(alloc, outer, seen, rest, keep)?;
+    let names = names(alloc, seen, rest)?;
+    Ok((names, keep))
 }
 
 fn resolve_find(
@@ -123,10 +165,13 @@ fn resolve_find(
 ) -> Result<StmtKind, AllocError>
     ensures { IfOk result (λ r. r ≡ StmtKind.Find node.now value.now key.now list.now seq.now seen.now rest.now (resolved_keep outer.now seen.now rest.now keep.now) body) }
 {
-    let keep = kept(alloc, outer, seen, rest, keep)?;
+    let locals = names(alloc, node, value)?;
+    let over = list_of(alloc, list, seq)?;
+    let kept = keep_of(alloc, outer, seen, rest, keep)?;
     let key = key.copy(alloc)?;
-    let (node, value) = locals(alloc, node, value)?;
-    let (list, seq, seen, rest) = over(alloc, list, seq, seen, rest)?;
+    let (node, value) = locals;
+    let (list, seq) = over;
+    let ((seen, rest), keep) = kept;
     Ok(StmtKind::Find {
         node,
         value,
@@ -154,9 +199,12 @@ fn resolve_walk(
 ) -> Result<StmtKind, AllocError>
     ensures { IfOk result (λ r. r ≡ StmtKind.Walk node.now value.now list.now seq.now seen.now rest.now (resolved_keep outer.now seen.now rest.now keep.now) body) }
 {
-    let keep = kept(alloc, outer, seen, rest, keep)?;
-    let (node, value) = locals(alloc, node, value)?;
-    let (list, seq, seen, rest) = over(alloc, list, seq, seen, rest)?;
+    let locals = names(alloc, node, value)?;
+    let over = list_of(alloc, list, seq)?;
+    let kept = keep_of(alloc, outer, seen, rest, keep)?;
+    let (node, value) = locals;
+    let (list, seq) = over;
+    let ((seen, rest), keep) = kept;
     Ok(StmtKind::Walk {
         node,
         value,
