@@ -33,5 +33,4 @@ mod WordedItems
 mod WordedKinds
 mod WordedResolved
 mod WordedScopes
-mod WordedStatements
 mod WordedTrees

@@ -89,5 +89,5 @@ function_visible_bare d s f =
 
 -- the signature of a function
 pub own_signature_bare : (d : Decls) (f : Function)
-    → signature_named (bare_decls d) (bare_function f).signature ≡ bare_option bare_signature (signature_named d f.signature.bytes)
+    → signature_named (bare_decls d) f.signature.bytes ≡ bare_option bare_signature (signature_named d f.signature.bytes)
 own_signature_bare d f = signature_named_bare d f.signature

@@ -18,8 +18,9 @@ use Rattle.bed_names.specs.Names.{words}
 use Rattle.bed_names.specs.Terms.{Visible, twice_faults, bind_names, assertion_faults, signature_name_faults}
 use Rattle.bed_names.specs.Statements.{Judged, falls_through, list_faults, judged}
 use Rattle.bed_names.specs.Modules.{plain, without_labels, signature_names, signature_faults, predicate_faults, params_of, logical_of, locals_room_faults, inside, faults_under, function_faults, import_faults, name_spaces_faults, items_faults, faults}
+use Rattle.bed_names.proofs.ArgumentLaws.{kept_by}
 use Rattle.bed_print.proofs.Worded.{worded_assertion, worded_signature, worded_predicate, worded_function, worded_with, worded}
-use Rattle.bed_print.proofs.WordedScopes.{SameDeclarations, SameSignatures, without_labels_same, kept_by, labels_worded, declarations_worded}
+use Rattle.bed_print.proofs.WordedScopes.{SameDeclarations, SameSignatures, without_labels_same, labels_worded, declarations_worded}
 use Rattle.bed_print.proofs.WordedFaults.{both, all_same, under, assertion_under, assertion_worded, signature_name_under}
 use Rattle.bed_print.proofs.WordedBodies.{around, body_same}
 

@@ -32,7 +32,7 @@ use Rattle.bed_names.specs.Resolved.{bare_sort, bare_variable, variable_arg, res
 use Rattle.bed_print.proofs.Worded.{bracketed, worded_arg, worded_args, worded_applied, worded_atom, worded_term, worded_assertion, worded_hint, worded_join, worded_keep, worded_stmt, worded_signature, worded_predicate, worded_function, worded_with, worded}
 use Rattle.bed_print.proofs.WordedScopes.{SameDeclarations, SameSignatures, without_labels_same, asked_same, asked_length, worded_length, declarations_worded}
 use Rattle.bed_print.proofs.WordedFaults.{under}
-use Rattle.bed_print.proofs.WordedStatements.{worded_layer, fold_worded}
+use Rattle.bed_names.proofs.ArgumentLaws.{changed_layer, fold_changed}
 
 -- items that become the same
 each_item : {T X : Type 0} (f g : T → X) (change : T → T) → ((t : T) → f (change t) ≡ g t) → (ts : List T) → map f (map change ts) ≡ map g ts
@@ -186,7 +186,7 @@ module _ (v : Visible) where
   keep_worded : (u t : Name) (a : Assertion) → resolved_keep v u t (worded_keep v u t a) ≡ resolved_keep v u t a
   keep_worded u t a = assertion_worded (with_names v (sequences (u ∷ t ∷ []))) a
 
-  step_worded : (x : StmtKind-F StmtKind Stmt) → resolved_step v (worded_layer v x) ≡ resolved_step v x
+  step_worded : (x : StmtKind-F StmtKind Stmt) → resolved_step v (changed_layer worded_arg v x) ≡ resolved_step v x
   step_worded (StmtKind-F.Assign x a) = refl
   step_worded (StmtKind-F.Compute x op a b) = refl
   step_worded (StmtKind-F.Load x p) = refl
@@ -206,7 +206,7 @@ module _ (v : Visible) where
 
   stmt_worded : (s : Stmt) → resolved_stmt v (worded_stmt v s) ≡ resolved_stmt v s
   stmt_worded s =
-      fold_worded v (resolved_step v) (resolved_stmt_step v) s
+      fold_changed worded_arg v (resolved_step v) (resolved_stmt_step v) s
       ∙ ap (λ step. fold-Stmt StmtKind Stmt step (resolved_stmt_step v) s) (fun_ext step_worded)
 
 -- ---- items and modules
