@@ -191,15 +191,22 @@ fn longer_segment(alloc: Global) -> Result<Assertion, AllocError>
     })
 }
 
+fn lseg_cases(alloc: Global) -> Result<List<Assertion>, AllocError>
+    ensures { IfOk result (λ as'. as' ≡ the_lseg.cases) }
+{
+    let mut cases = one(alloc, unbound(alloc, empty_terms(alloc)?))?;
+    cases.push(longer_segment(alloc)?)?;
+    Ok(cases)
+}
+
 fn lseg(alloc: Global) -> Result<Predicate, AllocError>
     ensures { IfOk result (λ p. p ≡ the_lseg) }
 {
     let params = lseg_params(alloc)?;
-    let empty = unbound(alloc, empty_terms(alloc)?);
-    let mut cases = one(alloc, empty)?;
-    cases.push(longer_segment(alloc)?)?;
+    let cases = lseg_cases(alloc)?;
+    let name = name(alloc, b"lseg")?;
     Ok(Predicate {
-        name: name(alloc, b"lseg")?,
+        name,
         params,
         cases,
     })
@@ -223,14 +230,21 @@ fn whole_list(alloc: Global) -> Result<Term, AllocError>
     segment(alloc, first, Word::Number(0), elements)
 }
 
+fn lst_cases(alloc: Global) -> Result<List<Assertion>, AllocError>
+    ensures { IfOk result (λ as'. as' ≡ the_lst.cases) }
+{
+    let terms = one(alloc, whole_list(alloc)?)?;
+    one(alloc, unbound(alloc, terms))
+}
+
 fn lst(alloc: Global) -> Result<Predicate, AllocError>
     ensures { IfOk result (λ p. p ≡ the_lst) }
 {
     let params = lst_params(alloc)?;
-    let terms = one(alloc, whole_list(alloc)?)?;
-    let cases = one(alloc, unbound(alloc, terms))?;
+    let cases = lst_cases(alloc)?;
+    let name = name(alloc, b"lst")?;
     Ok(Predicate {
-        name: name(alloc, b"lst")?,
+        name,
         params,
         cases,
     })
