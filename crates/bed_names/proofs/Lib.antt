@@ -1,5 +1,5 @@
 pub mod ArgumentLaws
-mod BareLaws
+mod BareLemmas
 mod NotedLemmas
 mod ResolvedLemmas
 pub mod RuleLaws

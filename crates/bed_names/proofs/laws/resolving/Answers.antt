@@ -1,4 +1,4 @@
-use Rattle.bed_names.proofs.BareLaws.{no_bare_argument_is_left}
+use Rattle.bed_names.proofs.BareLemmas.{no_bare_argument_is_left}
 use Rattle.bed_names.proofs.SkeletonLaws.{resolving_keeps_skeletons}
 use Rattle.bed_names.proofs.laws.resolving.Goals as goal
 

@@ -20,17 +20,17 @@ use Rattle.bed_lang.specs.declared.module.Function.{Function}
 use Rattle.bed_lang.specs.declared.module.Join.{Join}
 use Rattle.bed_lang.specs.declared.module.Hint.{Hint}
 use Rattle.bed_lang.specs.declared.module.Hint.TheVariants as hint
-use Rattle.bed_lang.specs.declared.statement.Stmt.{Stmt, ind-Stmt, fold-roll-Stmt, fold_out-Stmt}
-use Rattle.bed_lang.specs.declared.statement.StmtKind.{StmtKind, StmtKind-F, map-StmtKind, roll-StmtKind, fold-roll-StmtKind}
-use Rattle.bed_lang.specs.declared.statement.StmtKind.TheVariants.{rolls-Assign, rolls-Compute, rolls-Load, rolls-LoadByte, rolls-Store, rolls-StoreByte, rolls-Call, rolls-If, rolls-While, rolls-Return, rolls-Hint, rolls-Find, rolls-Walk}
+use Rattle.bed_lang.specs.declared.statement.Stmt.{Stmt, fold-Stmt, ind-Stmt, fold-roll-Stmt}
+use Rattle.bed_lang.specs.declared.statement.StmtKind.{StmtKind, StmtKind-F, fold-StmtKind, map-StmtKind, fold-roll-StmtKind}
 use Rattle.bed_lang.specs.declared.condition.Decls.{Decls}
-use Rattle.bed_names.specs.Bare.{arg_is_resolved, atom_is_resolved, term_is_resolved, assertion_is_resolved, hint_is_resolved, join_is_resolved, kind_test, stmt_test, kind_is_resolved, stmt_is_resolved, signature_is_resolved, predicate_is_resolved, function_is_resolved}
+use Rattle.bed_names.specs.Bare.{arg_is_resolved, atom_is_resolved, term_is_resolved, assertion_is_resolved, hint_is_resolved, join_is_resolved, kind_test, stmt_test, stmt_is_resolved, signature_is_resolved, predicate_is_resolved, function_is_resolved}
 use Rattle.bed_lang.specs.Declarations.{declarations}
 use Rattle.bed_lang.specs.Lookups.{signature_named, predicate_named}
 use Rattle.bed_names.specs.Names.{sequences}
 use Rattle.bed_names.specs.Laws.{NoBareArgumentIsLeft}
 use Rattle.bed_names.specs.Modules.{plain, signature_names, function_visible}
-use Rattle.bed_names.specs.Resolved.{bare_sort, bare_variable, variable_arg, resolved_arg, resolved_args, resolved_atom, resolved_term, resolved_assertion, resolved_hint, resolved_join, resolved_keep, resolved_step, resolved_stmt_step, resolved_kind, resolved_stmt, resolved_signature, resolved_predicate, resolved_function}
+use Rattle.bed_names.specs.Resolved.{bare_sort, bare_variable, variable_arg, resolved_arg, resolved_args, resolved_atom, resolved_term, resolved_assertion, resolved_hint, resolved_join, resolved_keep, resolved_stmt, resolved_signature, resolved_predicate, resolved_function}
+use Rattle.bed_names.proofs.ArgumentLaws.{changed_layer, fold_changed}
 use Rattle.bed_names.specs.Terms.{Visible, with_names, asked_by, first_sort, behind_first}
 
 -- what each item becomes has no bare argument
@@ -90,71 +90,62 @@ join_made : (v : Visible) (j : Option Join) → join_is_resolved (resolved_join 
 join_made v None = refl
 join_made v (Some j) = assertion_made v j.assertion
 
--- the test of a kind of statement that is made of its parts
-tested : (x : StmtKind-F StmtKind Stmt)
-    → kind_is_resolved (roll-StmtKind x) ≡ kind_test (map-StmtKind StmtKind Stmt Bool Bool kind_is_resolved stmt_is_resolved x)
-tested x = fold-roll-StmtKind Bool Bool kind_test stmt_test x
-
 module _ (v : Visible) where
-  abbrev stmts : List ((s : Stmt) × (stmt_is_resolved (resolved_stmt v s) ≡ true)) → List Stmt
-  stmts ss = map (resolved_stmt v) (map (λ s. s.0) ss)
+  -- the test of one layer without bare arguments, and of a statement layer by layer
+  abbrev layered : StmtKind-F Bool Bool → Bool
+  layered x = kind_test (changed_layer resolved_arg v x)
 
-  body_made : (ss : List ((s : Stmt) × (stmt_is_resolved (resolved_stmt v s) ≡ true)))
-      → list_all (λ b. b) (map stmt_is_resolved (map (resolved_stmt v) (map (λ s. s.0) ss))) ≡ true
+  abbrev kind_made : StmtKind → Bool
+  kind_made = fold-StmtKind Bool Bool layered stmt_test
+
+  abbrev stmt_made : Stmt → Bool
+  stmt_made = fold-Stmt Bool Bool layered stmt_test
+
+  abbrev trees : List ((s : Stmt) × (stmt_made s ≡ true)) → List Stmt
+  trees ss = map (λ s. s.0) ss
+
+  body_made : (ss : List ((s : Stmt) × (stmt_made s ≡ true))) → list_all (λ b. b) (map stmt_made (trees ss)) ≡ true
   body_made [] = refl
-  body_made (s ∷ ss) =
-      and_from (stmt_is_resolved (resolved_stmt v s.0)) (list_all (λ b. b) (map stmt_is_resolved (map (resolved_stmt v) (map (λ s. s.0) ss))))
-      s.1 (body_made ss)
+  body_made (s ∷ ss) = and_from (stmt_made s.0) (list_all (λ b. b) (map stmt_made (trees ss))) s.1 (body_made ss)
 
-  layer : (y : StmtKind-F ((k : StmtKind) × (kind_is_resolved (resolved_kind v k) ≡ true)) ((s : Stmt) × (stmt_is_resolved (resolved_stmt v s) ≡ true)))
-      → kind_is_resolved (resolved_step v (map-StmtKind _ _ _ _ (resolved_kind v) (resolved_stmt v) (map-StmtKind _ _ _ _ (λ e. e.0) (λ e. e.0) y))) ≡ true
-  layer (StmtKind-F.Assign x a) = ap kind_is_resolved (sym (rolls-Assign x a)) ∙ tested (StmtKind-F.Assign x a)
-  layer (StmtKind-F.Compute x op a b) = ap kind_is_resolved (sym (rolls-Compute x op a b)) ∙ tested (StmtKind-F.Compute x op a b)
-  layer (StmtKind-F.Load x p) = ap kind_is_resolved (sym (rolls-Load x p)) ∙ tested (StmtKind-F.Load x p)
-  layer (StmtKind-F.LoadByte x p) = ap kind_is_resolved (sym (rolls-LoadByte x p)) ∙ tested (StmtKind-F.LoadByte x p)
-  layer (StmtKind-F.Store p a) = ap kind_is_resolved (sym (rolls-Store p a)) ∙ tested (StmtKind-F.Store p a)
-  layer (StmtKind-F.StoreByte p a) = ap kind_is_resolved (sym (rolls-StoreByte p a)) ∙ tested (StmtKind-F.StoreByte p a)
-  layer (StmtKind-F.Return a) = ap kind_is_resolved (sym (rolls-Return a)) ∙ tested (StmtKind-F.Return a)
-  layer (StmtKind-F.Hint h) =
-      ap kind_is_resolved (sym (rolls-Hint (resolved_hint v h))) ∙ tested (StmtKind-F.Hint (resolved_hint v h)) ∙ hint_made v h
+  layer : (y : StmtKind-F ((k : StmtKind) × (kind_made k ≡ true)) ((s : Stmt) × (stmt_made s ≡ true)))
+      → layered (map-StmtKind StmtKind Stmt Bool Bool kind_made stmt_made (map-StmtKind _ _ StmtKind Stmt (λ k. k.0) (λ s. s.0) y)) ≡ true
+  layer (StmtKind-F.Assign x a) = refl
+  layer (StmtKind-F.Compute x op a b) = refl
+  layer (StmtKind-F.Load x p) = refl
+  layer (StmtKind-F.LoadByte x p) = refl
+  layer (StmtKind-F.Store p a) = refl
+  layer (StmtKind-F.StoreByte p a) = refl
+  layer (StmtKind-F.Return a) = refl
+  layer (StmtKind-F.Hint h) = hint_made v h
   layer (StmtKind-F.Call place x t via args hints after) =
-      ap kind_is_resolved (sym (rolls-Call place x t via args (map (resolved_hint v) hints) (resolved_assertion v after)))
-      ∙ tested (StmtKind-F.Call place x t via args (map (resolved_hint v) hints) (resolved_assertion v after))
-      ∙ and_from (list_all hint_is_resolved (map (resolved_hint v) hints)) (assertion_is_resolved (resolved_assertion v after))
+      and_from (list_all hint_is_resolved (map (resolved_hint v) hints)) (assertion_is_resolved (resolved_assertion v after))
       (all_made hint_is_resolved (resolved_hint v) (hint_made v) hints) (assertion_made v after)
   layer (StmtKind-F.If t ys ns j) =
-      ap kind_is_resolved (sym (rolls-If t (stmts ys) (stmts ns) (resolved_join v j)))
-      ∙ tested (StmtKind-F.If t (stmts ys) (stmts ns) (resolved_join v j))
-      ∙ and_from (list_all (λ b. b) (map stmt_is_resolved (stmts ys)))
-      (list_all (λ b. b) (map stmt_is_resolved (stmts ns)) && join_is_resolved (resolved_join v j))
+      and_from (list_all (λ b. b) (map stmt_made (trees ys)))
+      (list_all (λ b. b) (map stmt_made (trees ns)) && join_is_resolved (resolved_join v j))
       (body_made ys)
-      (and_from (list_all (λ b. b) (map stmt_is_resolved (stmts ns))) (join_is_resolved (resolved_join v j)) (body_made ns) (join_made v j))
+      (and_from (list_all (λ b. b) (map stmt_made (trees ns))) (join_is_resolved (resolved_join v j)) (body_made ns) (join_made v j))
   layer (StmtKind-F.While t place a body) =
-      ap kind_is_resolved (sym (rolls-While t place (resolved_assertion v a) (stmts body)))
-      ∙ tested (StmtKind-F.While t place (resolved_assertion v a) (stmts body))
-      ∙ and_from (assertion_is_resolved (resolved_assertion v a)) (list_all (λ b. b) (map stmt_is_resolved (stmts body)))
+      and_from (assertion_is_resolved (resolved_assertion v a)) (list_all (λ b. b) (map stmt_made (trees body)))
       (assertion_made v a) (body_made body)
   layer (StmtKind-F.Find n x a p s u t keep body) =
-      ap kind_is_resolved (sym (rolls-Find n x a p s u t (resolved_keep v u t keep) (stmts body)))
-      ∙ tested (StmtKind-F.Find n x a p s u t (resolved_keep v u t keep) (stmts body))
-      ∙ and_from (assertion_is_resolved (resolved_keep v u t keep)) (list_all (λ b. b) (map stmt_is_resolved (stmts body)))
+      and_from (assertion_is_resolved (resolved_keep v u t keep)) (list_all (λ b. b) (map stmt_made (trees body)))
       (assertion_made (with_names v (sequences (u ∷ t ∷ []))) keep) (body_made body)
   layer (StmtKind-F.Walk n x p s u t keep body) =
-      ap kind_is_resolved (sym (rolls-Walk n x p s u t (resolved_keep v u t keep) (stmts body)))
-      ∙ tested (StmtKind-F.Walk n x p s u t (resolved_keep v u t keep) (stmts body))
-      ∙ and_from (assertion_is_resolved (resolved_keep v u t keep)) (list_all (λ b. b) (map stmt_is_resolved (stmts body)))
+      and_from (assertion_is_resolved (resolved_keep v u t keep)) (list_all (λ b. b) (map stmt_made (trees body)))
       (assertion_made (with_names v (sequences (u ∷ t ∷ []))) keep) (body_made body)
 
-  stmt_made : (s : Stmt) → stmt_is_resolved (resolved_stmt v s) ≡ true
-  stmt_made =
-      ind-Stmt (λ k. kind_is_resolved (resolved_kind v k) ≡ true) (λ s. stmt_is_resolved (resolved_stmt v s) ≡ true)
+  each_made : (s : Stmt) → stmt_made s ≡ true
+  each_made =
+      ind-Stmt (λ k. kind_made k ≡ true) (λ s. stmt_made s ≡ true)
       (λ x y is.
-      subst (λ k. kind_is_resolved k ≡ true) (sym (fold-roll-StmtKind StmtKind Stmt (resolved_step v) (resolved_stmt_step v) x))
-      (subst (λ z. kind_is_resolved (resolved_step v (map-StmtKind _ _ _ _ (resolved_kind v) (resolved_stmt v) z)) ≡ true) is (layer y)))
-      (λ x y is.
-      subst (λ s. stmt_is_resolved s ≡ true) (sym (fold-roll-Stmt StmtKind Stmt (resolved_step v) (resolved_stmt_step v) x))
-      (fold_out-Stmt Bool Bool kind_test stmt_test (record { at = x.at; kind = resolved_kind v x.kind })
-      ∙ subst (λ z. kind_is_resolved (resolved_kind v z.kind) ≡ true) is y.kind.1))
+      fold-roll-StmtKind Bool Bool layered stmt_test x
+      ∙ subst (λ z. layered (map-StmtKind StmtKind Stmt Bool Bool kind_made stmt_made z) ≡ true) is (layer y))
+      (λ x y is. fold-roll-Stmt Bool Bool layered stmt_test x ∙ subst (λ z. kind_made z.kind ≡ true) is y.kind.1)
+
+  statement_made : (s : Stmt) → stmt_is_resolved (resolved_stmt v s) ≡ true
+  statement_made s = fold_changed resolved_arg v kind_test stmt_test s ∙ each_made s
 
 signature_made : (d : Decls) (s : Signature) → signature_is_resolved (resolved_signature d s) ≡ true
 signature_made d s =
@@ -169,7 +160,7 @@ predicate_made d p =
 function_made : (d : Decls) (f : Function) → function_is_resolved (resolved_function d f) ≡ true
 function_made d f =
     let v : Visible = function_visible d (signature_named d f.signature.bytes) f in
-    all_made stmt_is_resolved (resolved_stmt v) (stmt_made v) f.body
+    all_made stmt_is_resolved (resolved_stmt v) (statement_made v) f.body
 
 pub no_bare_argument_is_left : NoBareArgumentIsLeft
 no_bare_argument_is_left m =
