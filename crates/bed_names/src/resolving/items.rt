@@ -7,10 +7,11 @@ ghost use Rattle.bed_names.specs.Resolved.{resolved_assertion, resolved_signatur
 
 use crate::declared::Declared;
 use crate::functions::{outer_in, outer_of};
-use crate::resolving::statements::{body, names};
+use crate::resolving::copies::both;
+use crate::resolving::statements::body;
 use crate::resolving::terms::assertion;
 use crate::visible::Outer;
-use bed_lang::{Assertion, Bind, Function, List, Module, Name, Predicate, Signature, Stmt, Tree};
+use bed_lang::{Assertion, Function, List, Module, Predicate, Signature, Stmt, Tree};
 use std::alloc::{AllocError, Global};
 
 // The precondition and the postcondition.
@@ -27,22 +28,13 @@ fn conditions(
     Ok((pre, post))
 }
 
-// The name, the parameters and the logical variables.
-fn heads(alloc: Global, s: &Signature) -> Result<(Name, List<Name>, List<Bind>), AllocError>
-    ensures { IfOk result (λ r. r ≡ (s.now.name, s.now.params, s.now.logical)) }
-{
-    let name = s.name.copy(alloc)?;
-    let params = s.params.copied(alloc)?;
-    let logical = s.logical.copied(alloc)?;
-    Ok((name, params, logical))
-}
-
 fn signature(alloc: Global, declared: &Declared, s: &Signature) -> Result<Signature, AllocError>
     ensures { IfOk result (λ r. r ≡ resolved_signature declared.now s.now) }
 {
-    let conditions = conditions(alloc, declared, s)?;
-    let (name, params, logical) = heads(alloc, s)?;
-    let (pre, post) = conditions;
+    let heads = both(alloc, &s.name, &s.params)?;
+    let logical = s.logical.copied(alloc)?;
+    let (pre, post) = conditions(alloc, declared, s)?;
+    let (name, params) = heads;
     Ok(Signature {
         name,
         params,
@@ -77,14 +69,26 @@ fn cases(alloc: Global, outer: &Outer, cases: &[Assertion]) -> Result<List<Asser
     Ok(out)
 }
 
+fn cases_of(
+    alloc: Global,
+    declared: &Declared,
+    p: &Predicate,
+) -> Result<List<Assertion>, AllocError>
+    ensures { IfOk result (λ r. r ≡ (resolved_predicate declared.now p.now).cases) }
+{
+    let outer = Outer::of_predicate(declared, p.params.as_slice());
+    cases(alloc, &outer, p.cases.as_slice())
+}
+
 fn predicate(alloc: Global, declared: &Declared, p: &Predicate) -> Result<Predicate, AllocError>
     ensures { IfOk result (λ r. r ≡ resolved_predicate declared.now p.now) }
 {
-    let outer = Outer::of_predicate(declared, p.params.as_slice());
-    let cases = cases(alloc, &outer, p.cases.as_slice())?;
+    let heads = both(alloc, &p.name, &p.params)?;
+    let cases = cases_of(alloc, declared, p)?;
+    let (name, params) = heads;
     Ok(Predicate {
-        name: p.name.copy(alloc)?,
-        params: p.params.copied(alloc)?,
+        name,
+        params,
         cases,
     })
 }
@@ -113,9 +117,9 @@ fn statements(alloc: Global, declared: &Declared, f: &Function) -> Result<List<S
 fn function(alloc: Global, declared: &Declared, f: &Function) -> Result<Function, AllocError>
     ensures { IfOk result (λ r. r ≡ resolved_function declared.now f.now) }
 {
-    let body = statements(alloc, declared, f)?;
-    let names = names(alloc, &f.name, &f.signature)?;
+    let names = both(alloc, &f.name, &f.signature)?;
     let locals = f.locals.copied(alloc)?;
+    let body = statements(alloc, declared, f)?;
     let (name, signature) = names;
     Ok(Function {
         name,
@@ -159,10 +163,10 @@ fn declared_items(
 pub(crate) fn module(alloc: Global, declared: &Declared, m: &Module) -> Result<Module, AllocError>
     ensures { IfOk result (λ r. r ≡ resolved_with declared.now m.now) }
 {
+    let heads = both(alloc, &m.name, &m.imports)?;
     let items = declared_items(alloc, declared, m)?;
     let functions = functions(alloc, declared, m.functions.as_slice())?;
-    let name = m.name.copy(alloc)?;
-    let imports = m.imports.copied(alloc)?;
+    let (name, imports) = heads;
     let (signatures, predicates) = items;
     Ok(Module {
         name,

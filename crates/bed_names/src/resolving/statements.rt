@@ -2,6 +2,7 @@
 ghost use Rattle.std.specs.Prelude.{◌≡◌, IfOk, map};
 ghost use Rattle.bed_names.specs.Resolved.{resolved_hint, resolved_assertion, resolved_keep, resolved_join, resolved_kind, resolved_stmt};
 
+use crate::resolving::copies::both;
 use crate::resolving::terms::{assertion, hint, hints, kept};
 use crate::visible::Outer;
 use bed_lang::{Assertion, Hint, Join, List, Name, Operand, Seq, Stmt, StmtKind, Test, Tree};
@@ -19,28 +20,19 @@ fn join(alloc: Global, outer: &Outer, join: &Option<Join>) -> Result<Option<Join
     }
 }
 
-// Copies of two names.
-pub(crate) fn names(alloc: Global, x: &Name, y: &Name) -> Result<(Name, Name), AllocError>
-    ensures { IfOk result (λ r. r ≡ (x.now, y.now)) }
-{
-    let first = x.copy(alloc)?;
-    let second = y.copy(alloc)?;
-    Ok((first, second))
-}
-
 // Where a call's result goes, what it calls, and with which arguments.
 fn called(
     alloc: Global,
     into: &Name,
     target: &Operand,
+    via: &Option<Name>,
     args: &List<Operand>,
-) -> Result<(Name, Operand, List<Operand>), AllocError>
-    ensures { IfOk result (λ r. r ≡ (into.now, target.now, args.now)) }
+) -> Result<((Name, Operand), (Option<Name>, List<Operand>)), AllocError>
+    ensures { IfOk result (λ r. r ≡ ((into.now, target.now), (via.now, args.now))) }
 {
-    let into = into.copy(alloc)?;
-    let target = target.copy(alloc)?;
-    let args = args.copied(alloc)?;
-    Ok((into, target, args))
+    let heads = both(alloc, into, target)?;
+    let rest = both(alloc, via, args)?;
+    Ok((heads, rest))
 }
 
 // The hints of a call, and what holds after it.
@@ -71,11 +63,9 @@ fn resolve_call(
 ) -> Result<StmtKind, AllocError>
     ensures { IfOk result (λ r. r ≡ StmtKind.Call place into.now target.now via.now args.now (map (resolved_hint outer.now) used.now) (resolved_assertion outer.now after.now)) }
 {
-    let heads = called(alloc, into, target, args)?;
-    let ends = used_and_after(alloc, outer, used, after)?;
-    let via = via.copied(alloc)?;
-    let (into, target, args) = heads;
-    let (hints, after) = ends;
+    let heads = called(alloc, into, target, via, args)?;
+    let (hints, after) = used_and_after(alloc, outer, used, after)?;
+    let ((into, target), (via, args)) = heads;
     Ok(StmtKind::Call {
         place,
         into,
@@ -87,51 +77,71 @@ fn resolve_call(
     })
 }
 
+fn resolve_hint(alloc: Global, outer: &Outer, h: &Hint) -> Result<StmtKind, AllocError>
+    ensures { IfOk result (λ r. r ≡ StmtKind.Hint (resolved_hint outer.now h.now)) }
+{
+    let hint = hint(alloc, outer, h)?;
+    Ok(StmtKind::Hint(hint))
+}
+
+// The test of an `if`, and its end.
+fn test_and_join(
+    alloc: Global,
+    outer: &Outer,
+    test: &Test,
+    end: &Option<Join>,
+) -> Result<(Test, Option<Join>), AllocError>
+    ensures test { IfOk result (λ r. r.0 ≡ test.now) }
+    ensures end { IfOk result (λ r. r.1 ≡ resolved_join outer.now end.now) }
+{
+    let test = test.copy(alloc)?;
+    let join = join(alloc, outer, end)?;
+    Ok((test, join))
+}
+
+#[cycle(resolve)]
 fn resolve_if(
     alloc: Global,
     outer: &Outer,
     test: &Test,
-    yes: List<Stmt>,
-    no: List<Stmt>,
+    yes: &[Stmt],
+    no: &[Stmt],
     end: &Option<Join>,
 ) -> Result<StmtKind, AllocError>
-    ensures { IfOk result (λ r. r ≡ StmtKind.If test.now yes no (resolved_join outer.now end.now)) }
+    ensures { IfOk result (λ r. r ≡ StmtKind.If test.now (map (resolved_stmt outer.now) yes.now) (map (resolved_stmt outer.now) no.now) (resolved_join outer.now end.now)) }
 {
-    let join = join(alloc, outer, end)?;
+    let heads = test_and_join(alloc, outer, test, end)?;
+    let yes = body(alloc, outer, yes)?;
+    let no = body(alloc, outer, no)?;
+    let (test, join) = heads;
     Ok(StmtKind::If {
-        test: test.copy(alloc)?,
+        test,
         yes,
         no,
         join,
     })
 }
 
+#[cycle(resolve)]
 fn resolve_while(
     alloc: Global,
     outer: &Outer,
     test: &Test,
     place: u32,
     invariant: &Assertion,
-    body: List<Stmt>,
+    statements: &[Stmt],
 ) -> Result<StmtKind, AllocError>
-    ensures { IfOk result (λ r. r ≡ StmtKind.While test.now place (resolved_assertion outer.now invariant.now) body) }
+    ensures { IfOk result (λ r. r ≡ StmtKind.While test.now place (resolved_assertion outer.now invariant.now) (map (resolved_stmt outer.now) statements.now)) }
 {
+    let test = test.copy(alloc)?;
     let invariant = assertion(alloc, outer, invariant)?;
+    let body = body(alloc, outer, statements)?;
     Ok(StmtKind::While {
-        test: test.copy(alloc)?,
+        test,
         place,
         invariant,
         body,
     })
-}
-
-// The list that `find` and `walk` go over, and its elements.
-fn list_of(alloc: Global, list: &Name, seq: &Seq) -> Result<(Name, Seq), AllocError>
-    ensures { IfOk result (λ r. r ≡ (list.now, seq.now)) }
-{
-    let list = list.copy(alloc)?;
-    let seq = seq.copy(alloc)?;
-    Ok((list, seq))
 }
 
 // The names of the elements seen and of the rest, and what is kept.
@@ -145,11 +155,45 @@ fn keep_of(
     ensures names { IfOk result (λ r. r.0 ≡ (seen.now, rest.now)) }
     ensures keep { IfOk result (λ r. r.1 ≡ resolved_keep outer.now seen.now rest.now keep.now) }
 {
+    let names = both(alloc, seen, rest)?;
     let keep = kept(alloc, outer, seen, rest, keep)?;
-    let names = names(alloc, seen, rest)?;
     Ok((names, keep))
 }
 
+// What `find` and `walk` go over: the list, its elements, and what is kept of them.
+fn over(
+    alloc: Global,
+    outer: &Outer,
+    list: &Name,
+    seq: &Seq,
+    seen: &Name,
+    rest: &Name,
+    keep: &Assertion,
+) -> Result<((Name, Seq), ((Name, Name), Assertion)), AllocError>
+    ensures list { IfOk result (λ r. r.0 ≡ (list.now, seq.now)) }
+    ensures names { IfOk result (λ r. r.1.0 ≡ (seen.now, rest.now)) }
+    ensures keep { IfOk result (λ r. r.1.1 ≡ resolved_keep outer.now seen.now rest.now keep.now) }
+{
+    let list = both(alloc, list, seq)?;
+    let keep = keep_of(alloc, outer, seen, rest, keep)?;
+    Ok((list, keep))
+}
+
+// The locals that a `find` sets, and what it looks for.
+fn find_heads(
+    alloc: Global,
+    node: &Name,
+    value: &Name,
+    key: &Operand,
+) -> Result<((Name, Name), Operand), AllocError>
+    ensures { IfOk result (λ r. r ≡ ((node.now, value.now), key.now)) }
+{
+    let locals = both(alloc, node, value)?;
+    let key = key.copy(alloc)?;
+    Ok((locals, key))
+}
+
+#[cycle(resolve)]
 fn resolve_find(
     alloc: Global,
     outer: &Outer,
@@ -161,17 +205,15 @@ fn resolve_find(
     seen: &Name,
     rest: &Name,
     keep: &Assertion,
-    body: List<Stmt>,
+    statements: &[Stmt],
 ) -> Result<StmtKind, AllocError>
-    ensures { IfOk result (λ r. r ≡ StmtKind.Find node.now value.now key.now list.now seq.now seen.now rest.now (resolved_keep outer.now seen.now rest.now keep.now) body) }
+    ensures { IfOk result (λ r. r ≡ StmtKind.Find node.now value.now key.now list.now seq.now seen.now rest.now (resolved_keep outer.now seen.now rest.now keep.now) (map (resolved_stmt outer.now) statements.now)) }
 {
-    let locals = names(alloc, node, value)?;
-    let over = list_of(alloc, list, seq)?;
-    let kept = keep_of(alloc, outer, seen, rest, keep)?;
-    let key = key.copy(alloc)?;
-    let (node, value) = locals;
-    let (list, seq) = over;
-    let ((seen, rest), keep) = kept;
+    let heads = find_heads(alloc, node, value, key)?;
+    let over = over(alloc, outer, list, seq, seen, rest, keep)?;
+    let body = body(alloc, outer, statements)?;
+    let ((node, value), key) = heads;
+    let ((list, seq), ((seen, rest), keep)) = over;
     Ok(StmtKind::Find {
         node,
         value,
@@ -185,6 +227,7 @@ fn resolve_find(
     })
 }
 
+#[cycle(resolve)]
 fn resolve_walk(
     alloc: Global,
     outer: &Outer,
@@ -195,16 +238,15 @@ fn resolve_walk(
     seen: &Name,
     rest: &Name,
     keep: &Assertion,
-    body: List<Stmt>,
+    statements: &[Stmt],
 ) -> Result<StmtKind, AllocError>
-    ensures { IfOk result (λ r. r ≡ StmtKind.Walk node.now value.now list.now seq.now seen.now rest.now (resolved_keep outer.now seen.now rest.now keep.now) body) }
+    ensures { IfOk result (λ r. r ≡ StmtKind.Walk node.now value.now list.now seq.now seen.now rest.now (resolved_keep outer.now seen.now rest.now keep.now) (map (resolved_stmt outer.now) statements.now)) }
 {
-    let locals = names(alloc, node, value)?;
-    let over = list_of(alloc, list, seq)?;
-    let kept = keep_of(alloc, outer, seen, rest, keep)?;
+    let locals = both(alloc, node, value)?;
+    let over = over(alloc, outer, list, seq, seen, rest, keep)?;
+    let body = body(alloc, outer, statements)?;
     let (node, value) = locals;
-    let (list, seq) = over;
-    let ((seen, rest), keep) = kept;
+    let ((list, seq), ((seen, rest), keep)) = over;
     Ok(StmtKind::Walk {
         node,
         value,
@@ -236,21 +278,14 @@ fn kind(alloc: Global, outer: &Outer, kind: &StmtKind) -> Result<StmtKind, Alloc
             yes,
             no,
             join,
-        } => {
-            let yes = body(alloc, outer, yes.as_slice())?;
-            let no = body(alloc, outer, no.as_slice())?;
-            resolve_if(alloc, outer, test, yes, no, join)
-        }
+        } => resolve_if(alloc, outer, test, yes.as_slice(), no.as_slice(), join),
         StmtKind::While {
             test,
             place,
             invariant,
             body: b,
-        } => {
-            let b = body(alloc, outer, b.as_slice())?;
-            resolve_while(alloc, outer, test, *place, invariant, b)
-        }
-        StmtKind::Hint(h) => Ok(StmtKind::Hint(hint(alloc, outer, h)?)),
+        } => resolve_while(alloc, outer, test, *place, invariant, b.as_slice()),
+        StmtKind::Hint(h) => resolve_hint(alloc, outer, h),
         StmtKind::Find {
             node,
             value,
@@ -262,7 +297,7 @@ fn kind(alloc: Global, outer: &Outer, kind: &StmtKind) -> Result<StmtKind, Alloc
             keep,
             body: b,
         } => {
-            let b = body(alloc, outer, b.as_slice())?;
+            let b = b.as_slice();
             resolve_find(
                 alloc, outer, node, value, key, list, seq, seen, rest, keep, b,
             )
@@ -277,7 +312,7 @@ fn kind(alloc: Global, outer: &Outer, kind: &StmtKind) -> Result<StmtKind, Alloc
             keep,
             body: b,
         } => {
-            let b = body(alloc, outer, b.as_slice())?;
+            let b = b.as_slice();
             resolve_walk(alloc, outer, node, value, list, seq, seen, rest, keep, b)
         }
         StmtKind::Assign(..)

@@ -85,8 +85,9 @@ fn applied(alloc: Global, scope: &Scope, x: &Name, args: &[Arg]) -> Result<List<
 fn predicate(alloc: Global, scope: &Scope, x: &Name, args: &[Arg]) -> Result<Atom, AllocError>
     ensures { IfOk result (λ r. r ≡ atom.Pred x.now (resolved_applied scope.now x.now args.now)) }
 {
+    let name = x.copy(alloc)?;
     let args = applied(alloc, scope, x, args)?;
-    Ok(Atom::Pred(x.copy(alloc)?, args))
+    Ok(Atom::Pred(name, args))
 }
 
 fn atom(alloc: Global, scope: &Scope, a: &Atom) -> Result<Atom, AllocError>
@@ -128,8 +129,8 @@ fn bound(
     ensures { IfOk result (λ r. r ≡ resolved_assertion (with_names outer.now (sequences (map (λ y. y.now) lists.now))) a.now) }
 {
     let scope = outer.with(lists, a.binders.as_slice());
-    let terms = terms(alloc, &scope, a.terms.as_slice())?;
     let binders = a.binders.copied(alloc)?;
+    let terms = terms(alloc, &scope, a.terms.as_slice())?;
     Ok(Assertion {
         at: a.at,
         binders,
@@ -170,15 +171,17 @@ fn fold(
 ) -> Result<Hint, AllocError>
     ensures { IfOk result (λ r. r ≡ hint.Fold x.now (resolved_applied scope.now x.now args.now) number) }
 {
+    let name = x.copy(alloc)?;
     let args = applied(alloc, scope, x, args)?;
-    Ok(Hint::Fold(x.copy(alloc)?, args, number))
+    Ok(Hint::Fold(name, args, number))
 }
 
 fn give(alloc: Global, scope: &Scope, x: &Name, a: &Arg) -> Result<Hint, AllocError>
     ensures { IfOk result (λ r. r ≡ hint.Give x.now (resolved_arg scope.now None a.now)) }
 {
-    let a = argument(alloc, scope, None, a)?;
-    Ok(Hint::Give(x.copy(alloc)?, a))
+    let name = x.copy(alloc)?;
+    let value = argument(alloc, scope, None, a)?;
+    Ok(Hint::Give(name, value))
 }
 
 /// The same for a hint.
