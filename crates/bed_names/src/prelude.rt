@@ -128,23 +128,48 @@ fn unbound(alloc: Global, terms: List<Term>) -> Assertion
     }
 }
 
+fn boxed_word(alloc: Global, bytes: &[u8]) -> Result<Box<Word>, AllocError>
+    ensures { IfOk result (λ w. w ≡ word_of bytes.now) }
+{
+    Box::new(alloc, word(alloc, bytes)?)
+}
+
+fn boxed_sequence(alloc: Global, bytes: &[u8]) -> Result<Box<Seq>, AllocError>
+    ensures { IfOk result (λ s. s ≡ sequence_of bytes.now) }
+{
+    Box::new(alloc, sequence(alloc, bytes)?)
+}
+
+// cons(v, t)
+fn longer_elements(alloc: Global) -> Result<Seq, AllocError>
+    ensures { IfOk result (λ s. s ≡ Cons (word_of (codes "v")) (sequence_of (codes "t"))) }
+{
+    let first = boxed_word(alloc, b"v")?;
+    Ok(Seq::Cons(first, boxed_sequence(alloc, b"t")?))
+}
+
 // [s == cons(v, t)]
 fn begins(alloc: Global) -> Result<Pure, AllocError>
     ensures { IfOk result (λ p. p ≡ pure.Same (sequence_of (codes "s")) (Cons (word_of (codes "v")) (sequence_of (codes "t")))) }
 {
     let elements = sequence(alloc, b"s")?;
-    let first = Box::new(alloc, word(alloc, b"v")?)?;
-    let rest = Box::new(alloc, sequence(alloc, b"t")?)?;
-    Ok(Pure::Same(elements, Seq::Cons(first, rest)))
+    Ok(Pure::Same(elements, longer_elements(alloc)?))
+}
+
+// p + 4
+fn next_place(alloc: Global) -> Result<Word, AllocError>
+    ensures { IfOk result (λ w. w ≡ Add (word_of (codes "p")) (Number 4)) }
+{
+    let base = boxed_word(alloc, b"p")?;
+    Ok(Word::Add(base, Box::new(alloc, Word::Number(4))?))
 }
 
 // p + 4 |-> n
 fn next_cell(alloc: Global) -> Result<Atom, AllocError>
     ensures { IfOk result (λ a. a ≡ atom.Cell (Add (word_of (codes "p")) (Number 4)) (word_of (codes "n"))) }
 {
-    let base = Box::new(alloc, word(alloc, b"p")?)?;
-    let four = Box::new(alloc, Word::Number(4))?;
-    Ok(Atom::Cell(Word::Add(base, four), word(alloc, b"n")?))
+    let place = next_place(alloc)?;
+    Ok(Atom::Cell(place, word(alloc, b"n")?))
 }
 
 fn longer_binders(alloc: Global) -> Result<List<Bind>, AllocError>

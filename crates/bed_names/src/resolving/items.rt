@@ -163,10 +163,10 @@ fn declared_items(
 pub(crate) fn module(alloc: Global, declared: &Declared, m: &Module) -> Result<Module, AllocError>
     ensures { IfOk result (λ r. r ≡ resolved_with declared.now m.now) }
 {
-    let heads = both(alloc, &m.name, &m.imports)?;
     let items = declared_items(alloc, declared, m)?;
     let functions = functions(alloc, declared, m.functions.as_slice())?;
-    let (name, imports) = heads;
+    let name = m.name.copy(alloc)?;
+    let imports = m.imports.copied(alloc)?;
     let (signatures, predicates) = items;
     Ok(Module {
         name,

@@ -85,9 +85,8 @@ fn applied(alloc: Global, scope: &Scope, x: &Name, args: &[Arg]) -> Result<List<
 fn predicate(alloc: Global, scope: &Scope, x: &Name, args: &[Arg]) -> Result<Atom, AllocError>
     ensures { IfOk result (λ r. r ≡ atom.Pred x.now (resolved_applied scope.now x.now args.now)) }
 {
-    let name = x.copy(alloc)?;
     let args = applied(alloc, scope, x, args)?;
-    Ok(Atom::Pred(name, args))
+    Ok(Atom::Pred(x.copy(alloc)?, args))
 }
 
 fn atom(alloc: Global, scope: &Scope, a: &Atom) -> Result<Atom, AllocError>
@@ -171,9 +170,8 @@ fn fold(
 ) -> Result<Hint, AllocError>
     ensures { IfOk result (λ r. r ≡ hint.Fold x.now (resolved_applied scope.now x.now args.now) number) }
 {
-    let name = x.copy(alloc)?;
     let args = applied(alloc, scope, x, args)?;
-    Ok(Hint::Fold(name, args, number))
+    Ok(Hint::Fold(x.copy(alloc)?, args, number))
 }
 
 fn give(alloc: Global, scope: &Scope, x: &Name, a: &Arg) -> Result<Hint, AllocError>
