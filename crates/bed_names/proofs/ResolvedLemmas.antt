@@ -48,32 +48,35 @@ module _ (v : Visible) where
       sym (ap (resolved_kind v) (e ∙ sym (rolls-Call place x t via args hints after))
       ∙ fold-roll-StmtKind StmtKind Stmt (resolved_step v) (resolved_stmt_step v) (StmtKind-F.Call place x t via args hints after))
 
-  pub made_If : (k : StmtKind) (t : Test) (ys ns ys' ns' : List Stmt) (j : Option Join) → k ≡ If t ys ns j
-      → ys' ≡ ys → ns' ≡ ns → If t (map (resolved_stmt v) ys') (map (resolved_stmt v) ns') (resolved_join v j) ≡ resolved_kind v k
-  made_If k t ys ns ys' ns' j e ey en =
-      ap (λ b. If t (map (resolved_stmt v) b) (map (resolved_stmt v) ns') (resolved_join v j)) ey
-      ∙ ap (λ b. If t (map (resolved_stmt v) ys) (map (resolved_stmt v) b) (resolved_join v j)) en
+  pub made_If : (k : StmtKind) (t : Test) (ys ns ys' ns' ys'' ns'' : List Stmt) (j : Option Join) → k ≡ If t ys ns j
+      → ys' ≡ ys → ys'' ≡ map (resolved_stmt v) ys' → ns' ≡ ns → ns'' ≡ map (resolved_stmt v) ns'
+      → If t ys'' ns'' (resolved_join v j) ≡ resolved_kind v k
+  made_If k t ys ns ys' ns' ys'' ns'' j e ey hy en hn =
+      ap (λ b. If t b ns'' (resolved_join v j)) (hy ∙ ap (map (resolved_stmt v)) ey)
+      ∙ ap (λ b. If t (map (resolved_stmt v) ys) b (resolved_join v j)) (hn ∙ ap (map (resolved_stmt v)) en)
       ∙ sym (ap (resolved_kind v) (e ∙ sym (rolls-If t ys ns j))
       ∙ fold-roll-StmtKind StmtKind Stmt (resolved_step v) (resolved_stmt_step v) (StmtKind-F.If t ys ns j))
 
-  pub made_While : (k : StmtKind) (t : Test) (place : ℕ) (a : Assertion) (b b' : List Stmt) → k ≡ While t place a b
-      → b' ≡ b → While t place (resolved_assertion v a) (map (resolved_stmt v) b') ≡ resolved_kind v k
-  made_While k t place a b b' e eb =
-      ap (λ x. While t place (resolved_assertion v a) (map (resolved_stmt v) x)) eb
+  pub made_While : (k : StmtKind) (t : Test) (place : ℕ) (a : Assertion) (b b' b'' : List Stmt) → k ≡ While t place a b
+      → b' ≡ b → b'' ≡ map (resolved_stmt v) b' → While t place (resolved_assertion v a) b'' ≡ resolved_kind v k
+  made_While k t place a b b' b'' e eb hb =
+      ap (While t place (resolved_assertion v a)) (hb ∙ ap (map (resolved_stmt v)) eb)
       ∙ sym (ap (resolved_kind v) (e ∙ sym (rolls-While t place a b))
       ∙ fold-roll-StmtKind StmtKind Stmt (resolved_step v) (resolved_stmt_step v) (StmtKind-F.While t place a b))
 
-  pub made_Find : (k : StmtKind) (n x : Name) (o : Operand) (p : Name) (s : Seq) (u t : Name) (a : Assertion) (b b' : List Stmt)
-      → k ≡ Find n x o p s u t a b → b' ≡ b → Find n x o p s u t (resolved_keep v u t a) (map (resolved_stmt v) b') ≡ resolved_kind v k
-  made_Find k n x o p s u t a b b' e eb =
-      ap (λ y. Find n x o p s u t (resolved_keep v u t a) (map (resolved_stmt v) y)) eb
+  pub made_Find : (k : StmtKind) (n x : Name) (o : Operand) (p : Name) (s : Seq) (u t : Name) (a : Assertion) (b b' b'' : List Stmt)
+      → k ≡ Find n x o p s u t a b → b' ≡ b → b'' ≡ map (resolved_stmt v) b'
+      → Find n x o p s u t (resolved_keep v u t a) b'' ≡ resolved_kind v k
+  made_Find k n x o p s u t a b b' b'' e eb hb =
+      ap (Find n x o p s u t (resolved_keep v u t a)) (hb ∙ ap (map (resolved_stmt v)) eb)
       ∙ sym (ap (resolved_kind v) (e ∙ sym (rolls-Find n x o p s u t a b))
       ∙ fold-roll-StmtKind StmtKind Stmt (resolved_step v) (resolved_stmt_step v) (StmtKind-F.Find n x o p s u t a b))
 
-  pub made_Walk : (k : StmtKind) (n x p : Name) (s : Seq) (u t : Name) (a : Assertion) (b b' : List Stmt)
-      → k ≡ Walk n x p s u t a b → b' ≡ b → Walk n x p s u t (resolved_keep v u t a) (map (resolved_stmt v) b') ≡ resolved_kind v k
-  made_Walk k n x p s u t a b b' e eb =
-      ap (λ y. Walk n x p s u t (resolved_keep v u t a) (map (resolved_stmt v) y)) eb
+  pub made_Walk : (k : StmtKind) (n x p : Name) (s : Seq) (u t : Name) (a : Assertion) (b b' b'' : List Stmt)
+      → k ≡ Walk n x p s u t a b → b' ≡ b → b'' ≡ map (resolved_stmt v) b'
+      → Walk n x p s u t (resolved_keep v u t a) b'' ≡ resolved_kind v k
+  made_Walk k n x p s u t a b b' b'' e eb hb =
+      ap (Walk n x p s u t (resolved_keep v u t a)) (hb ∙ ap (map (resolved_stmt v)) eb)
       ∙ sym (ap (resolved_kind v) (e ∙ sym (rolls-Walk n x p s u t a b))
       ∙ fold-roll-StmtKind StmtKind Stmt (resolved_step v) (resolved_stmt_step v) (StmtKind-F.Walk n x p s u t a b))
 

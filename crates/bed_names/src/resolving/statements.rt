@@ -77,67 +77,38 @@ fn resolve_call(
     })
 }
 
-fn resolve_hint(alloc: Global, outer: &Outer, h: &Hint) -> Result<StmtKind, AllocError>
-    ensures { IfOk result (λ r. r ≡ StmtKind.Hint (resolved_hint outer.now h.now)) }
-{
-    let hint = hint(alloc, outer, h)?;
-    Ok(StmtKind::Hint(hint))
-}
-
-// The test of an `if`, and its end.
-fn test_and_join(
-    alloc: Global,
-    outer: &Outer,
-    test: &Test,
-    end: &Option<Join>,
-) -> Result<(Test, Option<Join>), AllocError>
-    ensures test { IfOk result (λ r. r.0 ≡ test.now) }
-    ensures end { IfOk result (λ r. r.1 ≡ resolved_join outer.now end.now) }
-{
-    let test = test.copy(alloc)?;
-    let join = join(alloc, outer, end)?;
-    Ok((test, join))
-}
-
-#[cycle(resolve)]
 fn resolve_if(
     alloc: Global,
     outer: &Outer,
     test: &Test,
-    yes: &[Stmt],
-    no: &[Stmt],
+    yes: List<Stmt>,
+    no: List<Stmt>,
     end: &Option<Join>,
 ) -> Result<StmtKind, AllocError>
-    ensures { IfOk result (λ r. r ≡ StmtKind.If test.now (map (resolved_stmt outer.now) yes.now) (map (resolved_stmt outer.now) no.now) (resolved_join outer.now end.now)) }
+    ensures { IfOk result (λ r. r ≡ StmtKind.If test.now yes no (resolved_join outer.now end.now)) }
 {
-    let heads = test_and_join(alloc, outer, test, end)?;
-    let yes = body(alloc, outer, yes)?;
-    let no = body(alloc, outer, no)?;
-    let (test, join) = heads;
+    let join = join(alloc, outer, end)?;
     Ok(StmtKind::If {
-        test,
+        test: test.copy(alloc)?,
         yes,
         no,
         join,
     })
 }
 
-#[cycle(resolve)]
 fn resolve_while(
     alloc: Global,
     outer: &Outer,
     test: &Test,
     place: u32,
     invariant: &Assertion,
-    statements: &[Stmt],
+    body: List<Stmt>,
 ) -> Result<StmtKind, AllocError>
-    ensures { IfOk result (λ r. r ≡ StmtKind.While test.now place (resolved_assertion outer.now invariant.now) (map (resolved_stmt outer.now) statements.now)) }
+    ensures { IfOk result (λ r. r ≡ StmtKind.While test.now place (resolved_assertion outer.now invariant.now) body) }
 {
-    let test = test.copy(alloc)?;
     let invariant = assertion(alloc, outer, invariant)?;
-    let body = body(alloc, outer, statements)?;
     Ok(StmtKind::While {
-        test,
+        test: test.copy(alloc)?,
         place,
         invariant,
         body,
@@ -193,7 +164,6 @@ fn find_heads(
     Ok((locals, key))
 }
 
-#[cycle(resolve)]
 fn resolve_find(
     alloc: Global,
     outer: &Outer,
@@ -205,13 +175,12 @@ fn resolve_find(
     seen: &Name,
     rest: &Name,
     keep: &Assertion,
-    statements: &[Stmt],
+    body: List<Stmt>,
 ) -> Result<StmtKind, AllocError>
-    ensures { IfOk result (λ r. r ≡ StmtKind.Find node.now value.now key.now list.now seq.now seen.now rest.now (resolved_keep outer.now seen.now rest.now keep.now) (map (resolved_stmt outer.now) statements.now)) }
+    ensures { IfOk result (λ r. r ≡ StmtKind.Find node.now value.now key.now list.now seq.now seen.now rest.now (resolved_keep outer.now seen.now rest.now keep.now) body) }
 {
     let heads = find_heads(alloc, node, value, key)?;
     let over = over(alloc, outer, list, seq, seen, rest, keep)?;
-    let body = body(alloc, outer, statements)?;
     let ((node, value), key) = heads;
     let ((list, seq), ((seen, rest), keep)) = over;
     Ok(StmtKind::Find {
@@ -227,7 +196,6 @@ fn resolve_find(
     })
 }
 
-#[cycle(resolve)]
 fn resolve_walk(
     alloc: Global,
     outer: &Outer,
@@ -238,13 +206,12 @@ fn resolve_walk(
     seen: &Name,
     rest: &Name,
     keep: &Assertion,
-    statements: &[Stmt],
+    body: List<Stmt>,
 ) -> Result<StmtKind, AllocError>
-    ensures { IfOk result (λ r. r ≡ StmtKind.Walk node.now value.now list.now seq.now seen.now rest.now (resolved_keep outer.now seen.now rest.now keep.now) (map (resolved_stmt outer.now) statements.now)) }
+    ensures { IfOk result (λ r. r ≡ StmtKind.Walk node.now value.now list.now seq.now seen.now rest.now (resolved_keep outer.now seen.now rest.now keep.now) body) }
 {
     let locals = both(alloc, node, value)?;
     let over = over(alloc, outer, list, seq, seen, rest, keep)?;
-    let body = body(alloc, outer, statements)?;
     let (node, value) = locals;
     let ((list, seq), ((seen, rest), keep)) = over;
     Ok(StmtKind::Walk {
@@ -278,14 +245,21 @@ fn kind(alloc: Global, outer: &Outer, kind: &StmtKind) -> Result<StmtKind, Alloc
             yes,
             no,
             join,
-        } => resolve_if(alloc, outer, test, yes.as_slice(), no.as_slice(), join),
+        } => {
+            let yes = body(alloc, outer, yes.as_slice())?;
+            let no = body(alloc, outer, no.as_slice())?;
+            resolve_if(alloc, outer, test, yes, no, join)
+        }
         StmtKind::While {
             test,
             place,
             invariant,
             body: b,
-        } => resolve_while(alloc, outer, test, *place, invariant, b.as_slice()),
-        StmtKind::Hint(h) => resolve_hint(alloc, outer, h),
+        } => {
+            let b = body(alloc, outer, b.as_slice())?;
+            resolve_while(alloc, outer, test, *place, invariant, b)
+        }
+        StmtKind::Hint(h) => Ok(StmtKind::Hint(hint(alloc, outer, h)?)),
         StmtKind::Find {
             node,
             value,
@@ -297,7 +271,7 @@ fn kind(alloc: Global, outer: &Outer, kind: &StmtKind) -> Result<StmtKind, Alloc
             keep,
             body: b,
         } => {
-            let b = b.as_slice();
+            let b = body(alloc, outer, b.as_slice())?;
             resolve_find(
                 alloc, outer, node, value, key, list, seq, seen, rest, keep, b,
             )
@@ -312,7 +286,7 @@ fn kind(alloc: Global, outer: &Outer, kind: &StmtKind) -> Result<StmtKind, Alloc
             keep,
             body: b,
         } => {
-            let b = b.as_slice();
+            let b = body(alloc, outer, b.as_slice())?;
             resolve_walk(alloc, outer, node, value, list, seq, seen, rest, keep, b)
         }
         StmtKind::Assign(..)

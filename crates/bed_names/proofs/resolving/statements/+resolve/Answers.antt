@@ -1,4 +1,5 @@
-use Rattle.std.proofs.Common.{◌≡◌, subst, inl, inr, IfOk}
+use Rattle.std.proofs.Common.{◌≡◌, ◌∙◌, ap, subst, inl, inr, IfOk}
+use Rattle.bed_lang.specs.declared.statement.StmtKind.{Hint as HintStmt}
 use Rattle.bed_names.proofs.ResolvedLemmas.{kept_Assign, kept_Compute, kept_Load, kept_LoadByte, kept_Store, kept_StoreByte, kept_Return, made_Call, made_Hint, made_If, made_While, made_Find, made_Walk, body_step}
 use Rattle.bed_names.proofs.resolving.statements.+resolve.Goals as goal
 
@@ -36,41 +37,40 @@ kind-returns-in-Call t c =
     subst (λ k. IfOk c.resolve_call.result (λ r. r ≡ k))
     (made_Call c.args.outer.now c.args.kind.now w.place w.into w.target w.via w.args w.hints w.after w.is) c.resolve_call.ensures
 
-pub kind-returns-in-Hint : goal.kind-returns-in-Hint
-kind-returns-in-Hint t c =
-    subst (λ k. IfOk c.resolve_hint.result (λ r. r ≡ k))
-    (made_Hint c.args.outer.now c.args.kind.now c.in-Hint.h c.in-Hint.is) c.resolve_hint.ensures
+pub kind-returns-in_ok-hint-in-Hint : goal.kind-returns-in_ok-hint-in-Hint
+kind-returns-in_ok-hint-in-Hint t c =
+    ap HintStmt c.in_ok-hint-in-Hint.ensures ∙ made_Hint c.args.outer.now c.args.kind.now c.in-Hint.h c.in-Hint.is
 
-pub kind-returns-in-If : goal.kind-returns-in-If
-kind-returns-in-If t c =
+pub kind-returns-in_ok-no-in-If : goal.kind-returns-in_ok-no-in-If
+kind-returns-in_ok-no-in-If t c =
     let w = c.in-If in
     subst (λ k. IfOk c.resolve_if.result (λ r. r ≡ k))
-    (made_If c.args.outer.now c.args.kind.now w.test w.yes w.no c.as_slice.result.now c.as_slice-in-If.result.now w.join
-    w.is c.as_slice.ensures c.as_slice-in-If.ensures)
+    (made_If c.args.outer.now c.args.kind.now w.test w.yes w.no c.as_slice.result.now c.as_slice-in-If.result.now c.in_ok-yes-in-If.yes
+    c.in_ok-no-in-If.no w.join w.is c.as_slice.ensures c.in_ok-yes-in-If.ensures c.as_slice-in-If.ensures c.in_ok-no-in-If.ensures)
     c.resolve_if.ensures
 
-pub kind-returns-in-While : goal.kind-returns-in-While
-kind-returns-in-While t c =
+pub kind-returns-in_ok-b-in-While : goal.kind-returns-in_ok-b-in-While
+kind-returns-in_ok-b-in-While t c =
     let w = c.in-While in
     subst (λ k. IfOk c.resolve_while.result (λ r. r ≡ k))
-    (made_While c.args.outer.now c.args.kind.now w.test w.place w.invariant w.b c.as_slice-in-While.result.now
-    w.is c.as_slice-in-While.ensures)
+    (made_While c.args.outer.now c.args.kind.now w.test w.place w.invariant w.b c.as_slice-in-While.result.now c.in_ok-b-in-While.b
+    w.is c.as_slice-in-While.ensures c.in_ok-b-in-While.ensures)
     c.resolve_while.ensures
 
-pub kind-returns-in-Find : goal.kind-returns-in-Find
-kind-returns-in-Find t c =
+pub kind-returns-in_ok-b-in-Find : goal.kind-returns-in_ok-b-in-Find
+kind-returns-in_ok-b-in-Find t c =
     let w = c.in-Find in
     subst (λ k. IfOk c.resolve_find.result (λ r. r ≡ k))
     (made_Find c.args.outer.now c.args.kind.now w.node w.value w.key w.list w.seq w.seen w.rest w.keep w.b
-    c.as_slice-in-Find.result.now w.is c.as_slice-in-Find.ensures)
+    c.as_slice-in-Find.result.now c.in_ok-b-in-Find.b w.is c.as_slice-in-Find.ensures c.in_ok-b-in-Find.ensures)
     c.resolve_find.ensures
 
-pub kind-returns-in-Walk : goal.kind-returns-in-Walk
-kind-returns-in-Walk t c =
+pub kind-returns-in_ok-b-in-Walk : goal.kind-returns-in_ok-b-in-Walk
+kind-returns-in_ok-b-in-Walk t c =
     let w = c.in-Walk in
     subst (λ k. IfOk c.resolve_walk.result (λ r. r ≡ k))
     (made_Walk c.args.outer.now c.args.kind.now w.node w.value w.list w.seq w.seen w.rest w.keep w.b
-    c.as_slice-in-Walk.result.now w.is c.as_slice-in-Walk.ensures)
+    c.as_slice-in-Walk.result.now c.in_ok-b-in-Walk.b w.is c.as_slice-in-Walk.ensures c.in_ok-b-in-Walk.ensures)
     c.resolve_walk.ensures
 
 pub body-loop-s-preserved : goal.body-loop-s-preserved
