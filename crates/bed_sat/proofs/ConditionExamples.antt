@@ -1,5 +1,5 @@
 -- The conditions of small texts, computed.
-use Rattle.std.proofs.Common.{ℕ, ◌≡◌, Some, None, List, [], ◌∷◌, ◌++◌, map, codes, flat_map, append-nil, refl, ◌∙◌, ap}
+use Rattle.std.proofs.Common.{◌≡◌, Some, None, List, [], ◌∷◌, map, codes, flat_map, append-nil, refl, ◌∙◌, ap}
 use Rattle.bed_lang.specs.declared.module.Operand.TheVariants as operand
 use Rattle.bed_lang.specs.declared.module.Op.TheVariants as op
 use Rattle.bed_lang.specs.declared.module.Action.TheVariants as action

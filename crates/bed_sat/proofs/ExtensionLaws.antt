@@ -1,18 +1,15 @@
 -- Declarations of one module among those of all: what holds under the ones holds under the others.
-use Rattle.std.proofs.Common.{◌≡◌, ℕ, zero, suc, ◌+◌, ◌*◌, ◌<◌, Bool, true, false, IsTrue, cond, Option, Some, None, is_some, List, [], ◌∷◌, ◌++◌, map, length, take, find, bytes_eq, slice_get, inl, inr, Contains, refl, sym, ◌∙◌, ap, ap₂, subst, arith, bit_and}
+use Rattle.std.proofs.Common.{◌≡◌, ℕ, zero, suc, Bool, true, false, IsTrue, cond, Option, Some, None, is_some, List, [], ◌∷◌, ◌++◌, map, take, find, bytes_eq, slice_get, inl, inr, Contains, refl, sym, ◌∙◌, ap, ap₂, subst, arith}
 use Rattle.std.specs.List.{list_all}
 use Rattle.std.specs.Cmp.Lexicographic.{pointwise}
 use Rattle.std.proofs.lemmas.Bool.{and_parts}
 use Rattle.std.proofs.lemmas.List.Elements.{Contains-append_left, Contains-append_right, Contains-append_cases}
 use Rattle.bed_machine.proofs.WordLaws.{some_same}
-use Rattle.bed_lang.specs.Numbers.{wrap}
 use Rattle.bed_machine.specs.Memory.{Memory}
 use Rattle.bed_lang.specs.declared.word.Name.{Name}
-use Rattle.bed_lang.specs.declared.logic.Atom.{Atom}
 use Rattle.bed_lang.specs.declared.logic.Atom.TheVariants as atom
 use Rattle.bed_lang.specs.declared.logic.Term.{Term}
 use Rattle.bed_lang.specs.declared.logic.Term.TheVariants as term
-use Rattle.bed_lang.specs.declared.logic.Bind.{Bind}
 use Rattle.bed_lang.specs.declared.logic.Assertion.{Assertion}
 use Rattle.bed_lang.specs.declared.module.Operand.{Operand}
 use Rattle.bed_lang.specs.declared.module.Operand.TheVariants.{Number, Local, Label}
@@ -30,10 +27,9 @@ use Rattle.bed_lang.specs.Declarations.{labels_of, declarations, all_signatures,
 use Rattle.bed_lang.specs.Lookups.{signature_named, predicate_named, second_of, label_signature, named_signature, function_signature, count_of_params}
 use Rattle.bed_lang.specs.Same.{same_name, same_bind, same_assertion, same_signature, same_predicate}
 use Rattle.bed_lang.specs.Values.{Values, Old, Answer, set_word}
-use Rattle.bed_sat.specs.Assertions.{Meaning, blank, set_params, IsTrueAtom, IsTrueTerm, AreTrueTerms, IsTrueWith, World, meaning, Holds}
-use Rattle.bed_sat.specs.Parts.{Joins}
+use Rattle.bed_sat.specs.Assertions.{Meaning, blank, set_params, IsTrueTerm, AreTrueTerms, IsTrueWith, World, meaning, Holds}
 use Rattle.bed_sat.specs.Frames.{set_words}
-use Rattle.bed_sat.specs.Valid.{callee_name, operand_value, set_local, Does, After, CallHolds, GoalHolds, Starts, LabelsFit, IsValid}
+use Rattle.bed_sat.specs.Valid.{callee_name, operand_value, Does, After, CallHolds, GoalHolds, Starts, LabelsFit}
 use Rattle.bed_sat.specs.Declarations.{KeepsPredicates, Extends, IsConsistent, term_known, assertion_known, signature_known, predicate_known, signatures_known, predicates_known}
 use Rattle.bed_sat.specs.DeclarationLaws.{FewAreEnough, ConditionsStayValid, ModulesAreExtended}
 use Rattle.bed_sat.proofs.FrameLaws.{bytes_eq_is}

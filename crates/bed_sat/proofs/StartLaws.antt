@@ -1,17 +1,15 @@
 -- The conditions of a module start from assertions of the module.
-use Rattle.std.proofs.Common.{◌≡◌, ℕ, zero, suc, ◌+◌, ◌<◌, Bool, true, false, ◌&&◌, IsTrue, Option, Some, None, is_some, option_map, option_and_then, List, [], ◌∷◌, ◌++◌, map, length, codes, bytes_eq, flat_map, Contains, refl, sym, ◌∙◌, ap, subst, arith}
+use Rattle.std.proofs.Common.{◌≡◌, ℕ, zero, suc, Bool, true, false, ◌&&◌, IsTrue, Option, Some, None, is_some, option_map, option_and_then, List, [], ◌∷◌, ◌++◌, map, codes, bytes_eq, flat_map, Contains, refl, sym, subst, arith}
 use Rattle.std.specs.List.{list_all}
 use Rattle.std.specs.Option.{option_or}
 use Rattle.std.proofs.lemmas.Bool.{and_parts}
 use Rattle.bed_lang.specs.declared.word.Name.{Name}
 use Rattle.bed_lang.specs.declared.word.Seq.{Seq}
-use Rattle.bed_lang.specs.declared.logic.Term.{Term}
 use Rattle.bed_lang.specs.declared.logic.Assertion.{Assertion}
 use Rattle.bed_lang.specs.declared.module.Action.{Action}
 use Rattle.bed_lang.specs.declared.module.Hint.{Hint}
 use Rattle.bed_lang.specs.declared.module.Hint.TheVariants.{Append}
 use Rattle.bed_lang.specs.declared.module.Action.TheVariants as action
-use Rattle.bed_lang.specs.declared.module.Operand.{Operand}
 use Rattle.bed_lang.specs.declared.module.Operand.TheVariants.{Local}
 use Rattle.bed_lang.specs.declared.module.Test.{Test}
 use Rattle.bed_lang.specs.declared.module.Join.{Join}
@@ -25,9 +23,9 @@ use Rattle.bed_lang.specs.declared.statement.StmtKind.{StmtKind, StmtKind-F, rol
 use Rattle.bed_lang.specs.Lookups.{first_signature, predicate_named}
 use Rattle.bed_lang.specs.Declarations.{declarations}
 use Rattle.bed_table.specs.ListLoops.{word_named, list_invariant, not_yet, not_null, is_key, field_at}
-use Rattle.bed_sat.specs.Written.{unfold_at, fold_segment, fold_list, made_test, written}
-use Rattle.bed_sat.specs.Conditions.{Path, path_from, Site, Part, acted, hinted, owed_from, in_order, part_step, met, loop, choice, call, answer, list_loop, where_true, where_false, kind_part_step, kind_part, statement_part, body_part, path_at_entry, site_of, function_conditions, conditions}
-use Rattle.bed_sat.specs.Declarations.{term_known, assertion_known, signature_known, join_known, kind_known_step, statement_known_step, kind_known, statement_known, signatures_known, predicates_known, bodies_known, module_known}
+use Rattle.bed_sat.specs.Written.{unfold_at, fold_segment, fold_list, made_test}
+use Rattle.bed_sat.specs.Conditions.{Path, path_from, Site, Part, acted, hinted, owed_from, in_order, part_step, met, loop, choice, list_loop, where_true, where_false, kind_part_step, kind_part, statement_part, body_part, path_at_entry, site_of, function_conditions, conditions}
+use Rattle.bed_sat.specs.Declarations.{assertion_known, signature_known, join_known, kind_known_step, statement_known_step, kind_known, statement_known, signatures_known, predicates_known}
 use Rattle.bed_sat.specs.DeclarationLaws.{StartsAreKnown, ValidAmongAll}
 use Rattle.bed_sat.proofs.WrittenParts.{paths_are_same}
 use Rattle.bed_sat.proofs.ExtensionLaws.{found, passed, module_extends, conditions_stay_valid}
@@ -131,8 +129,8 @@ module _ (d : Decls) where
         let turn_keeps : Keeps (in_order turn) =
         order_keeps turn (λ q s. (tt, s), (λ q s. (tt, s), (kv, (λ q s. (tt, s), (λ q s. (tt, s), (λ q s. (tt, s), (λ q s. (tt, s), (λ q s. (tt, s), tt)))))))) in
         order_keeps (
-          hinted (unfold_at (codes "lst") p) ∷ acted (action.Assign n (Local p)) ∷ hinted (fold_segment p n 1)
-          ∷ loop site (made_test at (not_null n)) at A (in_order turn) ∷ hinted (unfold_at (codes "lseg") n) ∷ hinted (fold_list p) ∷ []
+        hinted (unfold_at (codes "lst") p) ∷ acted (action.Assign n (Local p)) ∷ hinted (fold_segment p n 1)
+        ∷ loop site (made_test at (not_null n)) at A (in_order turn) ∷ hinted (unfold_at (codes "lseg") n) ∷ hinted (fold_list p) ∷ []
         )
         (λ q s. (tt, s), (λ q s. (tt, s), (λ q s. (tt, s), (loop_keeps (made_test at (not_null n)) at A (in_order turn) k turn_keeps, (λ q s. (tt, s), (λ q s. (tt, s), tt))))))
 

@@ -7,11 +7,11 @@ use Rattle.bed_lang.specs.declared.module.Operand.TheVariants.{Local}
 use Rattle.bed_lang.specs.declared.module.Action.TheVariants as action
 use Rattle.bed_lang.specs.declared.module.Hint.TheVariants.{Append}
 use Rattle.bed_lang.specs.declared.condition.Cond.{Cond}
-use Rattle.bed_lang.specs.declared.statement.Stmt.{Stmt, ind-Stmt, fold-roll-Stmt, fold_out-Stmt}
+use Rattle.bed_lang.specs.declared.statement.Stmt.{Stmt, ind-Stmt, fold-roll-Stmt}
 use Rattle.bed_lang.specs.declared.statement.StmtKind.{StmtKind, StmtKind-F, map-StmtKind, fold-roll-StmtKind, If}
-use Rattle.bed_table.specs.ListLoops.{word_named, list_invariant, not_yet, not_null, is_key, field_at}
+use Rattle.bed_table.specs.ListLoops.{word_named, not_null, is_key, field_at}
 use Rattle.bed_sat.specs.Written.{statement, made_test, fold_segment, node_front, node_back, list_loop as written_loop, joined, written_kind_step, written_step, written_kind, written_statement, written}
-use Rattle.bed_sat.specs.Conditions.{Path, Site, Part, acted, hinted, owed_from, in_order, part_step, loop, choice, list_loop, kind_part_step, kind_part, statement_part, body_part}
+use Rattle.bed_sat.specs.Conditions.{Path, Site, Part, acted, hinted, owed_from, in_order, part_step, loop, choice, list_loop, kind_part_step, kind_part, statement_part}
 use Rattle.bed_sat.specs.ConditionLaws.{PathsAreSame}
 use Rattle.bed_sat.proofs.ConditionLaws.{part-Assign, part-Compute, part-Load, part-LoadByte, part-Store, part-StoreByte, part-Call, part-If, part-While, part-Return, part-Hint}
 

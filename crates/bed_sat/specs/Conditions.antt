@@ -179,13 +179,13 @@ module _ (site : Site) where
   abbrev pub list_loop : ℕ → Name → Name → Name → Assertion → Part → Part
   list_loop at n v p invariant visit =
       in_order (
-        hinted (unfold_at (codes "lst") p) ∷ acted (action.Assign n (Local p)) ∷ hinted (fold_segment p n 1)
-        ∷ loop (made_test at (not_null n)) at invariant (in_order (
-          hinted (unfold_at (codes "lseg") n) ∷ acted (action.Load v (field_at n 0)) ∷ visit
-          ∷ acted (action.Load v (field_at n 4)) ∷ hinted (fold_segment v v 1) ∷ hinted (fold_segment n v 2)
-          ∷ hinted (Append (word_named p)) ∷ acted (action.Assign n (Local v)) ∷ []
-        ))
-        ∷ hinted (unfold_at (codes "lseg") n) ∷ hinted (fold_list p) ∷ []
+      hinted (unfold_at (codes "lst") p) ∷ acted (action.Assign n (Local p)) ∷ hinted (fold_segment p n 1)
+      ∷ loop (made_test at (not_null n)) at invariant (in_order (
+      hinted (unfold_at (codes "lseg") n) ∷ acted (action.Load v (field_at n 0)) ∷ visit
+      ∷ acted (action.Load v (field_at n 4)) ∷ hinted (fold_segment v v 1) ∷ hinted (fold_segment n v 2)
+      ∷ hinted (Append (word_named p)) ∷ acted (action.Assign n (Local v)) ∷ []
+      ))
+      ∷ hinted (unfold_at (codes "lseg") n) ∷ hinted (fold_list p) ∷ []
       )
 
   -- each kind of statement at a place

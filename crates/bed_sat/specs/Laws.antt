@@ -1,5 +1,5 @@
 -- What the definitions give: statements of laws.
-use Rattle.std.specs.Prelude.{◌≡◌, ◌↔◌, ℕ, ◌+◌, ◌*◌, ◌<◌, ◌≤◌, IsTrue, Option, Some, Result, List, ◌++◌, length, slice_index, slice_set}
+use Rattle.std.specs.Prelude.{◌≡◌, ◌↔◌, ℕ, ◌+◌, ◌*◌, ◌<◌, ◌≤◌, IsTrue, Some, Result, List, ◌++◌, length, slice_index, slice_set}
 use Rattle.bed_machine.specs.declared.machine.Fault.{Fault}
 use Rattle.bed_lang.specs.Numbers.{wrap}
 use Rattle.bed_machine.specs.Memory.{Memory, word_at, put_word}

@@ -1,6 +1,6 @@
 -- The conditions that a `find` and a `walk` owe, in full: their places, starts, actions, goals and hints. A slip in what the two
 -- stand for, as another number of a case or an invariant without one of its terms, would make one of these false.
-use Rattle.std.specs.Prelude.{◌≡◌, ℕ, true, false, Some, None, List, [], ◌∷◌, codes}
+use Rattle.std.specs.Prelude.{◌≡◌, ℕ, true, false, Some, List, [], ◌∷◌, codes}
 use Rattle.bed_lang.specs.declared.word.Name.{Name}
 use Rattle.bed_lang.specs.declared.word.Sort.TheVariants as sort
 use Rattle.bed_lang.specs.declared.word.Var.TheVariants as var
