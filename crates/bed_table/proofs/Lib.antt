@@ -1,5 +1,5 @@
 pub mod SizeLaws
-mod SkeletonLaws
+pub mod SkeletonLaws
 pub mod CodeLemmas
 mod LayoutLemmas
 mod StepLemmas
