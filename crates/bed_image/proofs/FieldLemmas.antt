@@ -130,37 +130,45 @@ pub ok_is : {A : Type 0} (x y : A) → done x ≡ done y → x ≡ y
 ok_is x y e = cc
 
 -- what was taken from the front
-pub record Takes (from text rest : List ℕ) : Type 0 where
-  pub parts : from ≡ text ++ rest
-  pub rest_fits : IsBytes rest
+pub record Takes (from : Rest) (text : List ℕ) (rest : Rest) : Type 0 where
+  pub parts : from.bytes ≡ text ++ rest.bytes
+  pub moves : rest.at ≡ from.at + length text
+  pub rest_fits : IsBytes rest.bytes
 
-pub Takes-then : (a x b y c : List ℕ) → Takes a x b → Takes b y c → Takes a (x ++ y) c
-Takes-then a x b y c p q = record { parts = p.parts ∙ ap (λ (t : List ℕ). x ++ t) q.parts ∙ sym (append_assoc x y c); rest_fits = q.rest_fits }
+pub Takes-then : (a : Rest) (x : List ℕ) (b : Rest) (y : List ℕ) (c : Rest) → Takes a x b → Takes b y c → Takes a (x ++ y) c
+Takes-then a x b y c p q =
+    let first = p.moves in
+    let second = q.moves in
+    record {
+      parts = p.parts ∙ ap (λ (t : List ℕ). x ++ t) q.parts ∙ sym (append_assoc x y c.bytes);
+      moves = omega (arith, length-append x y);
+      rest_fits = q.rest_fits;
+    }
 
-pub field_takes : (size : ℕ) (r : Rest) (x : List ℕ × Rest) → IsBytes r.bytes → field_at size r ≡ Ok x → Takes r.bytes x.0 x.1.bytes × (length x.0 ≡ size) × IsBytes x.0
+pub field_takes : (size : ℕ) (r : Rest) (x : List ℕ × Rest) → IsBytes r.bytes → field_at size r ≡ Ok x → Takes r x.0 x.1 × (length x.0 ≡ size) × IsBytes x.0
 unfolding field_at
 field_takes size r x fits e =
     let g = guard_ok (ltb (length r.bytes) size) (r.at + length r.bytes) (take size r.bytes, record { at = r.at + size; bytes = drop size r.bytes }) x e in
     let long : size ≤ length r.bytes = ltb-false _ _ g.0 in
     let len : length (take size r.bytes) ≡ size = omega (arith, length-take size r.bytes) in
-    subst (λ (y : List ℕ × Rest). Takes r.bytes y.0 y.1.bytes × (length y.0 ≡ size) × IsBytes y.0) g.1
-    (record { parts = sym (take-append-drop size r.bytes); rest_fits = IsBytes-drop size r.bytes fits }, len, IsBytes-take size r.bytes fits)
+    subst (λ (y : List ℕ × Rest). Takes r y.0 y.1 × (length y.0 ≡ size) × IsBytes y.0) g.1
+    (record { parts = sym (take-append-drop size r.bytes); moves = ap (λ n. r.at + n) (sym len); rest_fits = IsBytes-drop size r.bytes fits }, len, IsBytes-take size r.bytes fits)
 
 one_byte : (f : List ℕ) → length f ≡ 1 → f ≡ slice_index f 0 ∷ []
 one_byte [] e = absurd (omega arith)
 one_byte (b ∷ []) e = refl
 one_byte (b ∷ c ∷ f) e = absurd (omega arith)
 
-pub byte_takes : (good : ℕ → Bool) (r : Rest) (x : ℕ × Rest) → IsBytes r.bytes → byte_at good r ≡ Ok x → Takes r.bytes (x.0 ∷ []) x.1.bytes × (good x.0 ≡ true) × (x.0 < 256)
+pub byte_takes : (good : ℕ → Bool) (r : Rest) (x : ℕ × Rest) → IsBytes r.bytes → byte_at good r ≡ Ok x → Takes r (x.0 ∷ []) x.1 × (good x.0 ≡ true) × (x.0 < 256)
 unfolding byte_at
 byte_takes good r x fits e =
     let f = bind_ok (field_at 1 r) (λ f. checked (good (slice_index f.0 0)) r.at (slice_index f.0 0, f.1)) x e in
     let t = field_takes 1 r f.0 fits f.1 in
     let c = checked_ok (good (slice_index f.0.0 0)) r.at (slice_index f.0.0 0, f.0.1) x f.2 in
-    subst (λ (y : ℕ × Rest). Takes r.bytes (y.0 ∷ []) y.1.bytes × (good y.0 ≡ true) × (y.0 < 256)) c.1
-    (subst (λ (text : List ℕ). Takes r.bytes text f.0.1.bytes) (one_byte f.0.0 t.1) t.0, c.0, t.2 0)
+    subst (λ (y : ℕ × Rest). Takes r (y.0 ∷ []) y.1 × (good y.0 ≡ true) × (y.0 < 256)) c.1
+    (subst (λ (text : List ℕ). Takes r text f.0.1) (one_byte f.0.0 t.1) t.0, c.0, t.2 0)
 
-pub word_takes : (good : ℕ → Bool) (r : Rest) (x : ℕ × Rest) → IsBytes r.bytes → word_at good r ≡ Ok x → Takes r.bytes (word_bytes x.0) x.1.bytes × (good x.0 ≡ true) × (x.0 < 2 ^ 32)
+pub word_takes : (good : ℕ → Bool) (r : Rest) (x : ℕ × Rest) → IsBytes r.bytes → word_at good r ≡ Ok x → Takes r (word_bytes x.0) x.1 × (good x.0 ≡ true) × (x.0 < 2 ^ 32)
 unfolding word_at
 word_takes good r x fits e =
     let f = bind_ok (field_at 4 r) (λ f. checked (good (from_le_bytes w32 f.0)) r.at (from_le_bytes w32 f.0, f.1)) x e in
@@ -169,13 +177,13 @@ word_takes good r x fits e =
     let b = t.2 in
     let below : from_le_bytes w32 f.0.0 < 2 ^ 32 = omega (arith, b 0, b 1, b 2, b 3) in
     let back : word_bytes (from_le_bytes w32 f.0.0) ≡ f.0.0 = sym (bytes_same (from_le_bytes w32 f.0.0)) ∙ le_bytes_4 f.0.0 _ t.1 b refl in
-    subst (λ (y : ℕ × Rest). Takes r.bytes (word_bytes y.0) y.1.bytes × (good y.0 ≡ true) × (y.0 < 2 ^ 32)) c.1
-    (subst (λ (text : List ℕ). Takes r.bytes text f.0.1.bytes) (sym back) t.0, c.0, below)
+    subst (λ (y : ℕ × Rest). Takes r (word_bytes y.0) y.1 × (good y.0 ≡ true) × (y.0 < 2 ^ 32)) c.1
+    (subst (λ (text : List ℕ). Takes r text f.0.1) (sym back) t.0, c.0, below)
 
-pub text_takes : (size : ℕ) (good : List ℕ → Bool) (r : Rest) (x : List ℕ × Rest) → IsBytes r.bytes → text_at size good r ≡ Ok x → Takes r.bytes x.0 x.1.bytes × (good x.0 ≡ true) × (length x.0 ≡ size)
+pub text_takes : (size : ℕ) (good : List ℕ → Bool) (r : Rest) (x : List ℕ × Rest) → IsBytes r.bytes → text_at size good r ≡ Ok x → Takes r x.0 x.1 × (good x.0 ≡ true) × (length x.0 ≡ size)
 unfolding text_at
 text_takes size good r x fits e =
     let f = bind_ok (field_at size r) (λ f. checked (good f.0) r.at f) x e in
     let t = field_takes size r f.0 fits f.1 in
     let c = checked_ok (good f.0.0) r.at f.0 x f.2 in
-    subst (λ (y : List ℕ × Rest). Takes r.bytes y.0 y.1.bytes × (good y.0 ≡ true) × (length y.0 ≡ size)) c.1 (t.0, c.0, t.1)
+    subst (λ (y : List ℕ × Rest). Takes r y.0 y.1 × (good y.0 ≡ true) × (length y.0 ≡ size)) c.1 (t.0, c.0, t.1)

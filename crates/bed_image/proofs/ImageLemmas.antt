@@ -10,35 +10,37 @@ use Rattle.std.proofs.lemmas.List.{append-nil, nil_from_length, take-append-le}
 use Rattle.bed_lang.specs.Numbers.{word_bytes}
 use Rattle.bed_machine.specs.MachineCode.{MachineCode}
 use Rattle.bed_image.specs.declared.error.ImageError.{ImageError}
+use Rattle.bed_image.specs.declared.error.ImageError.TheVariants.{BadImage, Memory}
 use Rattle.bed_image.specs.declared.image.Symbol.{Symbol}
 use Rattle.bed_image.specs.declared.image.Image.{Image}
 use Rattle.bed_image.specs.declared.reading.Header.{Header}
-use Rattle.bed_image.specs.Format.{table_bytes, header_bytes, image_bytes, IsSymbol, IsImage}
-use Rattle.bed_image.specs.Reading.{Rest, ◌>>=◌, Gives, checked, field_at, word_at, is_magic, magic_word, is_code_size, is_count, symbols_at, header_at, code_at, image_of}
+use Rattle.bed_image.specs.Format.{IsFileOf, table_bytes, header_bytes, image_bytes, IsSymbol, IsImage}
+use Rattle.bed_image.specs.Faults.{Answers, Refuses, magic_word, is_magic, is_code_size, is_count}
+use Rattle.bed_image.specs.Reading.{Rest, ◌>>=◌, Gives, checked, field_at, word_at, symbols_at, header_at, code_at, image_of}
 use Rattle.bed_image.proofs.FieldLemmas.{Reads, followed, made, field_reads, word_reads, IsBytes, bind_ok, checked_ok, ok_is, Takes, Takes-then, field_takes, word_takes}
 use Rattle.bed_image.proofs.SymbolLemmas.{symbols_reads, symbols_take}
 
 -- ---- what was written is read again
 
-size_true : (base size : ℕ) → size ≤ 1048576 → base + size ≤ 2 ^ 32 → is_code_size base size ≡ true
+pub size_true : (base size : ℕ) → size ≤ 1048576 → base + size ≤ 2 ^ 32 → is_code_size base size ≡ true
 size_true base size short fits = grind (arith, nat_tests)
 
-true_size : (base size : ℕ) → is_code_size base size ≡ true → (size ≤ 1048576) × (base + size ≤ 2 ^ 32)
+pub true_size : (base size : ℕ) → is_code_size base size ≡ true → (size ≤ 1048576) × (base + size ≤ 2 ^ 32)
 true_size base size h = (grind (arith, nat_tests), grind (arith, nat_tests))
 
-count_true : (n : ℕ) → n ≤ 65536 → is_count n ≡ true
+pub count_true : (n : ℕ) → n ≤ 65536 → is_count n ≡ true
 count_true n h = grind (arith, nat_tests)
 
-true_count : (n : ℕ) → is_count n ≡ true → n ≤ 65536
+pub true_count : (n : ℕ) → is_count n ≡ true → n ≤ 65536
 true_count n h = grind (arith, nat_tests)
 
-true_magic : (n : ℕ) → is_magic n ≡ true → n ≡ magic_word
+pub true_magic : (n : ℕ) → is_magic n ≡ true → n ≡ magic_word
 true_magic n h = eqb-true _ _ h
 
-abbrev whole_header : ℕ → ℕ → List Symbol → Header
+abbrev pub whole_header : ℕ → ℕ → List Symbol → Header
 whole_header base size ss = record { base = base; size = size; symbols = ss }
 
-header_reads : (base size : ℕ) (ss : List Symbol) → base < 2 ^ 32 → size ≤ 1048576 → base + size ≤ 2 ^ 32 → length ss ≤ 65536
+pub header_reads : (base size : ℕ) (ss : List Symbol) → base < 2 ^ 32 → size ≤ 1048576 → base + size ≤ 2 ^ 32 → length ss ≤ 65536
     → AllByRecursion (IsSymbol base size) ss → Reads header_at (header_bytes base size ss) (whole_header base size ss)
 unfolding header_at
 header_reads base size ss low short fits few all =
@@ -128,7 +130,7 @@ pub record IsHeader (x : Header) : Type 0 where
   pub count : length x.symbols ≤ 65536
   pub symbols : AllByRecursion (IsSymbol x.base x.size) x.symbols
 
-header_takes : (r : Rest) (x : Header × Rest) → IsBytes r.bytes → header_at r ≡ Ok x → Takes r.bytes (header_bytes x.0.base x.0.size x.0.symbols) x.1.bytes × IsHeader x.0
+pub header_takes : (r : Rest) (x : Header × Rest) → IsBytes r.bytes → header_at r ≡ Ok x → Takes r (header_bytes x.0.base x.0.size x.0.symbols) x.1 × IsHeader x.0
 unfolding header_at
 header_takes r x fits e =
     let m = bind_ok (word_at is_magic r) (λ m. word_at (λ _. true) m.1 >>= λ b. word_at (is_code_size b.0) b.1 >>= λ s. word_at is_count s.1 >>= λ c. symbols_at b.0 s.0 c.0 c.1 >>= λ t. Ok (whole_header b.0 s.0 t.0, t.1)) x e in
@@ -142,16 +144,16 @@ header_takes r x fits e =
     let tc = word_takes is_count s.0.1 c.0 ts.0.rest_fits c.1 in
     let t' = symbols_take b.0.0 s.0.0 c.0.0 c.0.1 t.0 tc.0.rest_fits t.1 in
     let text : List ℕ = table_bytes t.0.0 in
-    let magic : Takes r.bytes (word_bytes magic_word) m.0.1.bytes = subst (λ n. Takes r.bytes (word_bytes n) m.0.1.bytes) (true_magic m.0.0 tm.1) tm.0 in
-    let few : Takes s.0.1.bytes (word_bytes (length t.0.0)) c.0.1.bytes = subst (λ n. Takes s.0.1.bytes (word_bytes n) c.0.1.bytes) (sym t'.1) tc.0 in
-    let e4 = Takes-then s.0.1.bytes (word_bytes (length t.0.0)) c.0.1.bytes text t.0.1.bytes few t'.0 in
-    let e3 = Takes-then b.0.1.bytes (word_bytes s.0.0) s.0.1.bytes (word_bytes (length t.0.0) ++ text) t.0.1.bytes ts.0 e4 in
-    let e2 = Takes-then m.0.1.bytes (word_bytes b.0.0) b.0.1.bytes (word_bytes s.0.0 ++ (word_bytes (length t.0.0) ++ text)) t.0.1.bytes tb.0 e3 in
-    let e1 = Takes-then r.bytes (word_bytes magic_word) m.0.1.bytes (word_bytes b.0.0 ++ (word_bytes s.0.0 ++ (word_bytes (length t.0.0) ++ text))) t.0.1.bytes magic e2 in
+    let magic : Takes r (word_bytes magic_word) m.0.1 = subst (λ n. Takes r (word_bytes n) m.0.1) (true_magic m.0.0 tm.1) tm.0 in
+    let few : Takes s.0.1 (word_bytes (length t.0.0)) c.0.1 = subst (λ n. Takes s.0.1 (word_bytes n) c.0.1) (sym t'.1) tc.0 in
+    let e4 = Takes-then s.0.1 (word_bytes (length t.0.0)) c.0.1 text t.0.1 few t'.0 in
+    let e3 = Takes-then b.0.1 (word_bytes s.0.0) s.0.1 (word_bytes (length t.0.0) ++ text) t.0.1 ts.0 e4 in
+    let e2 = Takes-then m.0.1 (word_bytes b.0.0) b.0.1 (word_bytes s.0.0 ++ (word_bytes (length t.0.0) ++ text)) t.0.1 tb.0 e3 in
+    let e1 = Takes-then r (word_bytes magic_word) m.0.1 (word_bytes b.0.0 ++ (word_bytes s.0.0 ++ (word_bytes (length t.0.0) ++ text))) t.0.1 magic e2 in
     let sized = true_size b.0.0 s.0.0 ts.1 in
     let counted = true_count c.0.0 tc.1 in
     let made' : Header × Rest = (whole_header b.0.0 s.0.0 t.0.0, t.0.1) in
-    subst (λ (y : Header × Rest). Takes r.bytes (header_bytes y.0.base y.0.size y.0.symbols) y.1.bytes × IsHeader y.0) (ok_is made' x t.2)
+    subst (λ (y : Header × Rest). Takes r (header_bytes y.0.base y.0.size y.0.symbols) y.1 × IsHeader y.0) (ok_is made' x t.2)
     (e1, record { base = tb.2; size = sized.0; ends = sized.1; count = omega (arith, t'.1); symbols = t'.2 })
 
 record IsCode (base size : ℕ) (from : List ℕ) (c : MachineCode) : Type 0 where
@@ -185,6 +187,18 @@ image_takes bytes i fits e =
     let P : Image → Type 0 = λ y. IsImage y × (bytes ≡ image_bytes y) in
     subst P (ok_is (made' c.0) i c.2) (subst (λ (code : MachineCode). P (made' code)) (sym k.is) at_code)
 
-pub is_read : (bytes : List ℕ) (r : Result Image ImageError) → IsBytes bytes → Gives (λ i. i) r (image_of bytes) → IfOk r (λ i. IsImage i × (bytes ≡ image_bytes i))
+-- ---- what a reader answers that gives what the fields give
+
+pub is_read : (bytes : List ℕ) (r : Result Image ImageError) → IsBytes bytes → Gives (λ i. i) r (image_of bytes) → IfOk r (λ i. IsFileOf i bytes)
 is_read bytes (Ok i) fits given = image_takes bytes i fits given
 is_read bytes (Err e) fits given = tt
+
+pub is_answer : (i : Image) (r : Result Image ImageError) → Gives (λ j. j) r (Ok i) → Answers i r
+is_answer i (Ok j) given = cc
+is_answer i (Err (BadImage at)) given = absurd cc
+is_answer i (Err Memory) given = tt
+
+pub is_refusal : (at : ℕ) (r : Result Image ImageError) → Gives (λ j. j) r (Err at) → Refuses at r
+is_refusal at (Ok j) given = absurd cc
+is_refusal at (Err (BadImage b)) given = cc
+is_refusal at (Err Memory) given = tt

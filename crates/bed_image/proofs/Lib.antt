@@ -2,3 +2,4 @@ mod FieldLemmas
 mod SymbolLemmas
 mod ImageLemmas
 mod LoopLemmas
+mod FaultLemmas

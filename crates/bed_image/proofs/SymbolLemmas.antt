@@ -8,7 +8,8 @@ use Rattle.std.proofs.lemmas.List.Concat.{flat_map-cons}
 use Rattle.bed_lang.specs.Numbers.{word_bytes}
 use Rattle.bed_image.specs.declared.image.Symbol.{Symbol}
 use Rattle.bed_image.specs.Format.{symbol_bytes, IsSymbol}
-use Rattle.bed_image.specs.Reading.{Rest, ◌>>=◌, byte_at, word_at, text_at, is_kind, is_address, is_name_size, is_printing, symbol_at, symbols_at}
+use Rattle.bed_image.specs.Faults.{is_kind, is_address, is_name_size, is_printing}
+use Rattle.bed_image.specs.Reading.{Rest, ◌>>=◌, byte_at, word_at, text_at, symbol_at, symbols_at}
 use Rattle.bed_image.proofs.FieldLemmas.{Reads, followed, made, byte_reads, word_reads, text_reads, IsBytes, bind_ok, ok_is, Takes, Takes-then, byte_takes, word_takes, text_takes}
 
 -- ---- the tests say what `IsSymbol` says
@@ -93,7 +94,7 @@ symbols_reads base size (s ∷ ss) h =
 
 -- ---- what is read was written
 
-pub symbol_takes : (base size : ℕ) (r : Rest) (x : Symbol × Rest) → IsBytes r.bytes → symbol_at base size r ≡ Ok x → Takes r.bytes (symbol_bytes x.0) x.1.bytes × IsSymbol base size x.0
+pub symbol_takes : (base size : ℕ) (r : Rest) (x : Symbol × Rest) → IsBytes r.bytes → symbol_at base size r ≡ Ok x → Takes r (symbol_bytes x.0) x.1 × IsSymbol base size x.0
 unfolding symbol_at
 symbol_takes base size r x fits e =
     let whole : ℕ → ℕ → List ℕ → Symbol = λ k a t. record { kind = k; address = a; name = t } in
@@ -109,12 +110,12 @@ symbol_takes base size r x fits e =
     let long = tt'.2 in
     let m : c.0.0 ≡ length t.0.0 % 256 = omega arith in
     let named = true_size c.0.0 tc.1 in
-    let count = subst (λ n. Takes a.0.1.bytes (n ∷ []) c.0.1.bytes) m tc.0 in
-    let e3 = Takes-then a.0.1.bytes (length t.0.0 % 256 ∷ []) c.0.1.bytes t.0.0 t.0.1.bytes count tt'.0 in
-    let e2 = Takes-then k.0.1.bytes (word_bytes a.0.0) a.0.1.bytes ((length t.0.0 % 256 ∷ []) ++ t.0.0) t.0.1.bytes ta.0 e3 in
-    let e1 = Takes-then r.bytes (k.0.0 ∷ []) k.0.1.bytes (word_bytes a.0.0 ++ ((length t.0.0 % 256 ∷ []) ++ t.0.0)) t.0.1.bytes tk.0 e2 in
+    let count = subst (λ n. Takes a.0.1 (n ∷ []) c.0.1) m tc.0 in
+    let e3 = Takes-then a.0.1 (length t.0.0 % 256 ∷ []) c.0.1 t.0.0 t.0.1 count tt'.0 in
+    let e2 = Takes-then k.0.1 (word_bytes a.0.0) a.0.1 ((length t.0.0 % 256 ∷ []) ++ t.0.0) t.0.1 ta.0 e3 in
+    let e1 = Takes-then r (k.0.0 ∷ []) k.0.1 (word_bytes a.0.0 ++ ((length t.0.0 % 256 ∷ []) ++ t.0.0)) t.0.1 tk.0 e2 in
     let made' : Symbol × Rest = (whole k.0.0 a.0.0 t.0.0, t.0.1) in
-    subst (λ (y : Symbol × Rest). Takes r.bytes (symbol_bytes y.0) y.1.bytes × IsSymbol base size y.0) (ok_is made' x t.2) (
+    subst (λ (y : Symbol × Rest). Takes r (symbol_bytes y.0) y.1 × IsSymbol base size y.0) (ok_is made' x t.2) (
       e1,
       record {
         kind = true_kind k.0.0 tk.1;
@@ -127,17 +128,17 @@ symbol_takes base size r x fits e =
     )
 
 pub symbols_take : (base size n : ℕ) (r : Rest) (x : List Symbol × Rest) → IsBytes r.bytes → symbols_at base size n r ≡ Ok x
-    → Takes r.bytes (flat_map symbol_bytes x.0) x.1.bytes × (length x.0 ≡ n) × AllByRecursion (IsSymbol base size) x.0
+    → Takes r (flat_map symbol_bytes x.0) x.1 × (length x.0 ≡ n) × AllByRecursion (IsSymbol base size) x.0
 unfolding symbols_at
 symbols_take base size zero r x fits e =
-    subst (λ (y : List Symbol × Rest). Takes r.bytes (flat_map symbol_bytes y.0) y.1.bytes × (length y.0 ≡ 0) × AllByRecursion (IsSymbol base size) y.0)
-    (ok_is ([], r) x e) (record { parts = refl; rest_fits = fits }, refl, tt)
+    subst (λ (y : List Symbol × Rest). Takes r (flat_map symbol_bytes y.0) y.1 × (length y.0 ≡ 0) × AllByRecursion (IsSymbol base size) y.0)
+    (ok_is ([], r) x e) (record { parts = refl; moves = omega arith; rest_fits = fits }, refl, tt)
 symbols_take base size (suc n) r x fits e =
     let a = bind_ok (symbol_at base size r) (λ first. symbols_at base size n first.1 >>= λ more. Ok (first.0 ∷ more.0, more.1)) x e in
     let b = bind_ok (symbols_at base size n a.0.1) (λ more. Ok (a.0.0 ∷ more.0, more.1)) x a.2 in
     let first = symbol_takes base size r a.0 fits a.1 in
     let second = symbols_take base size n a.0.1 b.0 first.0.rest_fits b.1 in
-    let both = Takes-then r.bytes (symbol_bytes a.0.0) a.0.1.bytes (flat_map symbol_bytes b.0.0) b.0.1.bytes first.0 second.0 in
+    let both = Takes-then r (symbol_bytes a.0.0) a.0.1 (flat_map symbol_bytes b.0.0) b.0.1 first.0 second.0 in
     let made' : List Symbol × Rest = (a.0.0 ∷ b.0.0, b.0.1) in
-    subst (λ (y : List Symbol × Rest). Takes r.bytes (flat_map symbol_bytes y.0) y.1.bytes × (length y.0 ≡ suc n) × AllByRecursion (IsSymbol base size) y.0)
+    subst (λ (y : List Symbol × Rest). Takes r (flat_map symbol_bytes y.0) y.1 × (length y.0 ≡ suc n) × AllByRecursion (IsSymbol base size) y.0)
     (ok_is made' x b.2) (rw flat_map-cons both, ap suc second.1, (first.1, second.2))

@@ -1,5 +1,5 @@
 -- The bytes of an image file, and which values are images: what a file can hold, so that it is read again.
-use Rattle.std.specs.Prelude.{ℕ, ◌+◌, ◌%◌, ◌^◌, ◌<◌, ◌≤◌, List, [], ◌∷◌, ◌++◌, length, codes}
+use Rattle.std.specs.Prelude.{◌≡◌, ℕ, ◌+◌, ◌%◌, ◌^◌, ◌<◌, ◌≤◌, List, [], ◌∷◌, ◌++◌, length, codes}
 use Rattle.std.specs.List.{flat_map, AllByRecursion}
 use Rattle.bed_lang.specs.Numbers.{word_bytes}
 use Rattle.bed_image.specs.declared.image.Symbol.{Symbol}
@@ -37,3 +37,7 @@ pub record IsImage (i : Image) : Type 0 where
   pub ends : i.code.base + length i.code.bytes ≤ 2 ^ 32
   pub count : length i.symbols ≤ 65536
   pub symbols : AllByRecursion (IsSymbol i.code.base (length i.code.bytes)) i.symbols
+
+-- the bytes are those of the image
+abbrev pub IsFileOf : Image → List ℕ → Type 0
+IsFileOf i bytes = IsImage i × (bytes ≡ image_bytes i)

@@ -1,13 +1,13 @@
--- The fields of an image from left to right, and the first fault that is met. A field that isn't whole is a
--- fault at the end of the bytes, and a whole one with a bad value is a fault at its offset.
-use Rattle.std.specs.Prelude.{◌≡◌, ℕ, zero, suc, ◌+◌, ◌==◌, Bool, true, ◌&&◌, ◌||◌, List, [], ◌∷◌, length, take, drop, slice_index, Result, Ok, Err, codes, nat_lt, nat_le, nat_eq, if◌then◌else◌}
-use Rattle.std.specs.List.{list_all}
+-- What the reader's private functions compute of the bytes, one field after another. That this finds exactly the
+-- image, or the fault of `Faults`, is what the contract of `read_image` says.
+use Rattle.std.specs.Prelude.{◌≡◌, ℕ, zero, suc, ◌+◌, ◌==◌, Bool, true, List, [], ◌∷◌, length, take, drop, slice_index, Result, Ok, Err, nat_lt, if◌then◌else◌}
 use Rattle.std.specs.Int.{w32, from_le_bytes}
 use Rattle.bed_image.specs.declared.error.ImageError.{ImageError}
 use Rattle.bed_image.specs.declared.error.ImageError.TheVariants.{BadImage, Memory}
 use Rattle.bed_image.specs.declared.image.Symbol.{Symbol}
 use Rattle.bed_image.specs.declared.image.Image.{Image}
 use Rattle.bed_machine.specs.MachineCode.{MachineCode}
+use Rattle.bed_image.specs.Faults.{is_magic, is_code_size, is_count, is_kind, is_address, is_name_size, is_printing}
 use Rattle.bed_image.specs.declared.reading.Unread.{Unread}
 use Rattle.bed_image.specs.declared.reading.Header.{Header}
 
@@ -58,33 +58,6 @@ unfoldable pub text_at : ℕ → (List ℕ → Bool) → Rest → Result (List �
 text_at size good r = do
   f ← field_at size r
   checked (good f.0) r.at f
-
--- `BIM1` as a word
-abbrev pub magic_word : ℕ
-magic_word = from_le_bytes w32 (codes "BIM1")
-
--- which values are good: of the magic, the length of the code, the number of symbols, and of a symbol the
--- kind, the address, the length of the name and the name
-abbrev pub is_magic : ℕ → Bool
-is_magic n = nat_eq n magic_word
-
-abbrev pub is_code_size : ℕ → ℕ → Bool
-is_code_size base size = nat_le size 1048576 && nat_le (base + size) 4294967296
-
-abbrev pub is_count : ℕ → Bool
-is_count n = nat_le n 65536
-
-abbrev pub is_kind : ℕ → Bool
-is_kind kind = nat_le kind 3
-
-abbrev pub is_address : ℕ → ℕ → ℕ → ℕ → Bool
-is_address base size kind a = nat_eq kind 3 || (nat_le base a && nat_lt a (base + size))
-
-abbrev pub is_name_size : ℕ → Bool
-is_name_size size = nat_lt 0 size
-
-abbrev pub is_printing : List ℕ → Bool
-is_printing name = list_all (λ b. nat_le 0x21 b && nat_le b 0x7E) name
 
 -- a symbol of code of `size` bytes from `base` on
 unfoldable pub symbol_at : ℕ → ℕ → Rest → Result (Symbol × Rest) ℕ

@@ -4,8 +4,8 @@
 //! symbols, and the code to the end. [`read_image`] takes the fields in this order and names the offset of
 //! the first fault; [`write_image`] and [`header`] write what it reads.
 //!
-//! In `specs/`, `Format` has the bytes of an image and says which values are images, and `Reading` has the
-//! fields in their order with the fault of each.
+//! The definitions that the contracts cite stand in `specs/`: `Format` has the bytes of an image and says which
+//! values are images, and `Faults` has the fields in their order and the first fault of bytes that are none.
 #![tactic(auto)]
 
 mod error;

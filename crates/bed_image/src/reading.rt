@@ -1,10 +1,11 @@
 //! Reading images.
-ghost use Rattle.std.specs.Prelude.{◌≡◌, ℕ, ◌+◌, ◌*◌, ◌^◌, ◌<◌, ◌≤◌, List, length, take, ◌++◌, ◌∷◌, [], true, IfOk, OnOk, Ok, Err};
+ghost use Rattle.std.specs.Prelude.{◌≡◌, ℕ, ◌+◌, ◌*◌, ◌^◌, ◌<◌, ◌≤◌, List, length, take, [], true, IfOk, Ok, Err};
 ghost use Rattle.std.specs.Bool.{OnTrue};
 ghost use Rattle.std.specs.Int.{w32, from_le_bytes};
 ghost use Rattle.bed_image.specs.declared.image.Image.{Image};
-ghost use Rattle.bed_image.specs.Format.{IsImage, image_bytes};
-ghost use Rattle.bed_image.specs.Reading.{Gives, rest_of, field_at, byte_at, word_at, text_at, is_magic, is_address, is_printing, is_kind, is_name_size, magic_word, is_code_size, is_count, symbol_at, symbols_at, header_at, code_at, image_of};
+ghost use Rattle.bed_image.specs.Format.{IsFileOf, IsImage, image_bytes};
+ghost use Rattle.bed_image.specs.Faults.{IsFault, Answers, Refuses, is_magic, is_address, is_printing, is_kind, is_name_size, magic_word, is_code_size, is_count};
+ghost use Rattle.bed_image.specs.Reading.{Gives, rest_of, field_at, byte_at, word_at, text_at, symbol_at, symbols_at, header_at, code_at, image_of};
 
 use crate::error::ImageError;
 use crate::image::{Image, Symbol};
@@ -305,19 +306,15 @@ fn fields(alloc: Global, bytes: &[u8]) -> Result<Image, ImageError>
 ///
 /// # Errors
 /// `BadImage` exactly where they are no image, at the offset of the first fault: of a field with a bad value,
-/// of the end of the bytes where a field isn't whole, or of the first byte after the code. `Memory` for want
+/// of the end of the bytes where a field isn't whole, or of the first byte behind the code. `Memory` for want
 /// of memory.
 pub fn read_image(alloc: Global, bytes: &[u8]) -> Result<Image, ImageError>
-    // What is read is an image, and these are its bytes.
-    ensures read { IfOk result (λ i. IsImage i × (bytes.now ≡ image_bytes i)) }
-    // The bytes of an image are read as it.
-    ensures complete { (i : Image) → IsImage i → bytes.now ≡ image_bytes i → Gives (λ i. i) result (Ok i) }
-    // Which fault it is.
-    ensures fault { Gives (λ i. i) result (image_of bytes.now) }
-    // Each beginning of an image is one that ends too early.
-    ensures cut { (i : Image) (n : ℕ) → IsImage i → n < length (image_bytes i) → bytes.now ≡ take n (image_bytes i) → Gives (λ i. i) result (Err n) }
-    // Nothing may follow the code.
-    ensures more { (i : Image) (rest : List ℕ) → IsImage i → 0 < length rest → bytes.now ≡ image_bytes i ++ rest → Gives (λ i. i) result (Err (length (image_bytes i))) }
+    ensures read { IfOk result (λ i. IsFileOf i bytes.now) }
+    ensures complete { (i : Image) → IsFileOf i bytes.now → Answers i result }
+    ensures refused { (at : ℕ) → result ≡ Err (ImageError.BadImage at) → IsFault bytes.now at }
+    ensures fault { (at : ℕ) → IsFault bytes.now at → Refuses at result }
+    // Each beginning of an image's bytes ends too early.
+    ensures cut { (i : Image) (n : ℕ) → IsImage i → n < length (image_bytes i) → bytes.now ≡ take n (image_bytes i) → Refuses n result }
 {
     fields(alloc, bytes)
 }

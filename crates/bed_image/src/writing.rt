@@ -1,5 +1,5 @@
 //! Writing images.
-ghost use Rattle.std.specs.Prelude.{◌≡◌, [], ◌∷◌, ◌++◌, length, codes, IfOk, OnErr, OnOk};
+ghost use Rattle.std.specs.Prelude.{◌≡◌, [], ◌++◌, length, IfOk, OnErr, OnOk};
 ghost use Rattle.bed_lang.specs.Numbers.{word_bytes};
 ghost use Rattle.bed_image.specs.Format.{symbol_bytes, table_bytes, header_bytes, image_bytes};
 

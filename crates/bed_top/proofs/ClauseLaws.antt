@@ -25,6 +25,7 @@ use Rattle.bed_words.specs.declared.command.CommandError.TheVariants as wrong
 use Rattle.bed_words.specs.declared.command.Job.{Job}
 use Rattle.bed_words.specs.Usage.{IsUsage, PassesLimit}
 use Rattle.bed_words.proofs.CommandLaws.{one_answer, one_command}
+use Rattle.bed_top.proofs.ImageLaws.{resolved_have_the_image}
 use Rattle.bed_top.specs.Causes.{most_text, is_long, most_functions, function_count, first_misnamed, unbuilt_file, unbuilt_word, broken_status, word_at, Asks, AreModules, Due, no_command, passes_limit, unbuilt_command, asks_link, Building, not_all_built, one_built, Scoping, not_scoped, all_scoped, Counting, too_many, few_enough, Reading, not_read, all_read, Measuring, too_long, all_short, read_status, name_status}
 use Rattle.bed_top.specs.Files.{HasRead, Leaves, LeavesBut, KeepsCalm}
 use Rattle.bed_top.specs.Lines.{Reports, given, short, failed, both}
@@ -233,7 +234,7 @@ module _ (words : List (List ℕ)) (old new : FilesState) (sink_old sink_new : S
         read = subst (λ ts. AreModules ts h.1.0) whole h.1.1;
         scoped = ap (first_misnamed 0) same ∙ l.scoped;
         written = h.1.2 told ∙ ap (λ (ms : List Module). Some (image ms base [])) (sym as_scoped);
-        as_read = ap (λ (ms : List Module). image ms base []) as_scoped;
+        as_read = resolved_have_the_image h.1.0 base [];
         has_code = image_has_code (map resolved h.1.0);
         sound = subst (λ (ms : List Module). IsSound (linked ms base [])) (sym scoped) (is_sound l.linkable l.built l.kept l.few);
         outside = subst (λ (ms : List Module). (X : Outside) × IsOutsideOf (linked ms base []) X) (sym scoped) (has_outside l.linkable l.built);
