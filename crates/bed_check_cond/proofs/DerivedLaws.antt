@@ -22,11 +22,15 @@ use Rattle.bed_deriv.specs.declared.state.SymState.{SymState}
 use Rattle.bed_deriv.specs.declared.state.Sequent.{Sequent}
 use Rattle.bed_deriv.specs.declared.state.Remainder.{Remainder}
 use Rattle.bed_deriv.specs.Checks.{first_failure, outcome, remainder}
-use Rattle.bed_deriv.specs.Derives.{Purpose, ForFacts, ForStates, ForSteps, ForEnds, purpose, pure_rule, heap_rule, fact_table, Task, Proves, refused, facts_to_prove, proofs, from_states, states_to_close, rests_to_close, by_purpose, rules, whole, Derives}
-use Rattle.bed_deriv.specs.Derives as task
+use Rattle.bed_deriv.specs.Derives.{Purpose, ForFacts, ForStates, ForSteps, ForEnds, purpose, pure_rule, heap_rule, fact_table, refused, facts_to_prove, proofs, from_states, states_to_close, rests_to_close, by_purpose, rules, whole, Derives}
+use Rattle.bed_deriv.specs.declared.rest.Task.{Task}
+use Rattle.bed_deriv.specs.declared.rest.Task.TheVariants.{Proves}
+use Rattle.bed_deriv.specs.declared.rest.Task.TheVariants as task
 use Rattle.bed_deriv.specs.Fresh.{known_assertion, unfresh_goal, AreUnfresh}
 use Rattle.bed_deriv.specs.HeapRules.{claim, case_split, never, unfold_rule, fold_rule, append_rule, divide, merge, shape}
-use Rattle.bed_deriv.specs.Steps.{Rest, Onward, step, step_along, step_of_goal, finish, onward_of, onward_states}
+use Rattle.bed_deriv.specs.Steps.{step, step_along, step_of_goal, finish, onward_of, onward_states}
+use Rattle.bed_deriv.specs.declared.rest.Rest.{Rest}
+use Rattle.bed_deriv.specs.declared.rest.Onward.{Onward}
 use Rattle.bed_deriv.specs.Walk.{walk}
 use Rattle.bed_deriv.proofs.StartLaws.{started-known}
 use Rattle.bed_check_pure.specs.Sound.{FollowsAt, AllFollowAt}

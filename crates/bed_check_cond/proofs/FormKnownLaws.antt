@@ -18,7 +18,7 @@ use Rattle.bed_lang.specs.Keys.{bare_var, key_order}
 use Rattle.bed_lang.specs.Numbers.{wrap}
 use Rattle.bed_lang.specs.Forms.{Part, part_before, by_order, with_part, add_parts, times_parts, times_form, form_step, word_form}
 use Rattle.bed_deriv.specs.Fresh.{every, known_var, known_word_step, known_word}
-use Rattle.bed_deriv.specs.Rebuilt.{key_word, part_word, sum_from, parts_word, form_word, rebuilt_word}
+use Rattle.bed_forms.specs.Rebuilt.{key_word, part_word, sum_from, parts_word, form_word, rebuilt_word}
 use Rattle.bed_lang.specs.SameFacts.{is_constant}
 use Rattle.bed_deriv.specs.Steps.{product_of, bits_of, computed}
 use Rattle.bed_deriv.proofs.KnownLaws.{known-Number, known-Var, known-Label, known-Add, known-Sub, known-Times}

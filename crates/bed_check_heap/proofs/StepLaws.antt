@@ -20,8 +20,10 @@ use Rattle.bed_deriv.specs.Walk.{Walked, walk, walk_all}
 use Rattle.bed_check_pure.specs.States.{StateHolds, AreTrueFacts, AreTrueAtoms, world}
 use Rattle.bed_check_pure.specs.Answers.{built_table}
 use Rattle.bed_check_pure.proofs.WalkLaws.{trees_true}
-use Rattle.bed_check_heap.specs.Steps.{built_rule, sequents, where_walked, children_walked, after_rule, stepped}
-use Rattle.bed_check_heap.specs.Instances.{Matched, match_terms, after_match, matched}
+use Rattle.bed_check_heap.specs.Steps.{built_rule, stepped}
+use Rattle.bed_deriv.specs.Nodes.{sequents, where_walked, children_walked, after_rule}
+use Rattle.bed_check_heap.specs.Instances.{matched}
+use Rattle.bed_deriv.specs.Instances.{Matched, match_terms, after_match}
 use Rattle.bed_check_heap.specs.Sound.{atoms_numbered, SomeHolds, Leads, Meets}
 use Rattle.bed_check_heap.proofs.KeepLaws.{passed}
 use Rattle.bed_check_heap.proofs.MatchLaws.{LeavesMatch, match_leaves}

@@ -3,8 +3,10 @@ ghost use Rattle.std.specs.Prelude.{◌≡◌, ◌<◌, length, IfOk};
 ghost use Rattle.bed_deriv.specs.declared.derivation.Deriv.{out-Deriv};
 ghost use Rattle.bed_deriv.specs.Matches.{numbers_left};
 ghost use Rattle.bed_deriv.specs.Checks.{first_failure};
-ghost use Rattle.bed_check_heap.specs.Steps.{where_walked, children_walked, Answers};
-ghost use Rattle.bed_check_heap.specs.Instances.{match_terms, matched, matched_node};
+ghost use Rattle.bed_check_heap.specs.Steps.{Answers};
+ghost use Rattle.bed_deriv.specs.Nodes.{where_walked, children_walked};
+ghost use Rattle.bed_check_heap.specs.Instances.{matched};
+ghost use Rattle.bed_deriv.specs.Instances.{match_terms, matched_node};
 ghost use Rattle.bed_check_heap.specs.Matching.{AnswersMatch, match_left, match_chosen};
 ghost use Rattle.bed_check_heap.specs.Sound.{Meets};
 

@@ -1,7 +1,8 @@
 //! The check of a node for the rest of a condition.
 ghost use Rattle.std.specs.Prelude.{◌≡◌, IfOk};
 ghost use Rattle.bed_check_pure.specs.Faults.{AnswersRule};
-ghost use Rattle.bed_check_heap.specs.Steps.{built_rule, where_walked, children_walked, stepped, Answers};
+ghost use Rattle.bed_check_heap.specs.Steps.{built_rule, stepped, Answers};
+ghost use Rattle.bed_deriv.specs.Nodes.{where_walked, children_walked};
 ghost use Rattle.bed_check_heap.specs.Parts.{AnswersRoom, raw_rule};
 ghost use Rattle.bed_check_heap.specs.Sound.{Leads};
 

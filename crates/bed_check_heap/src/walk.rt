@@ -4,7 +4,7 @@ ghost use Rattle.bed_deriv.specs.Checks.{sequent};
 ghost use Rattle.bed_deriv.specs.Walk.{walk};
 ghost use Rattle.bed_check_pure.specs.Answers.{built_table};
 ghost use Rattle.bed_check_pure.specs.Faults.{AnswersWalk};
-ghost use Rattle.bed_check_heap.specs.Steps.{children_walked};
+ghost use Rattle.bed_deriv.specs.Nodes.{children_walked};
 
 use bed_check_pure::{Verdict, check_sequent};
 use bed_deriv::{Deriv, Sequent, SymState};

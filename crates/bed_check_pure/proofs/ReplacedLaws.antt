@@ -25,7 +25,7 @@ use Rattle.bed_sat.specs.Cells.{IsCell, IsByte, IsBlock}
 use Rattle.bed_sat.specs.Facts.{IsTrueFact}
 use Rattle.bed_sat.specs.Assertions.{World, WordValue, ListValue, Meaning, arg_value, arg_values, IsTrueAtom, meaning}
 use Rattle.bed_deriv.specs.declared.state.SymState.{SymState}
-use Rattle.bed_deriv.specs.Rebuilt.{rebuilt_word, rebuilt_seq, rebuilt_arg, rebuilt_fact, rebuilt_atom}
+use Rattle.bed_forms.specs.Rebuilt.{rebuilt_word, rebuilt_seq, rebuilt_arg, rebuilt_fact, rebuilt_atom}
 use Rattle.bed_deriv.specs.PureRules.{replaced_facts, replaced_atoms, replaced_state}
 use Rattle.bed_check_pure.specs.States.{AreTrueFacts, AreTrueAtoms, StateHolds}
 use Rattle.bed_check_pure.proofs.RebuiltLaws.{form_word-value, pieces_seq-value}

@@ -7,7 +7,6 @@ mod goals;
 pub mod laws;
 mod refusals;
 mod rules;
-mod same;
 mod verdict;
 
 pub use check::{check_pure, check_sequent};

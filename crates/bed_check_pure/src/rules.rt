@@ -8,9 +8,10 @@ ghost use Rattle.bed_check_pure.specs.Faults.{AnswersRule};
 
 use crate::fault::Fault;
 use crate::goals::{either_known, goal_and_known, one_goal, two_goals};
-use crate::same::{by_norm, same_facts};
+
 use bed_deriv::arguments::{atom_at, fact_at, fact_given, number_at, numbered, word_at};
 use bed_deriv::{DArg, Sequent, negation};
+use bed_forms::{by_norm, same_facts};
 use bed_lang::{Atom, Box, List, Pure, Word};
 use std::alloc::{AllocError, Global};
 

@@ -1,13 +1,16 @@
 pub mod Fresh
 pub mod Arguments
-pub mod Rebuilt
 pub mod Opening
+pub mod Readings
 pub mod Checks
 pub mod PureRules
 pub mod ListRules
 pub mod Chains
 pub mod Matches
+pub mod Matching
 pub mod HeapRules
 pub mod Steps
 pub mod Walk
+pub mod Nodes
+pub mod Instances
 pub mod Derives

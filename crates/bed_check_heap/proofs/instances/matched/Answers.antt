@@ -3,7 +3,7 @@ use Rattle.bed_lang.specs.Instances.{terms_with}
 use Rattle.bed_deriv.specs.declared.derivation.Deriv.{out-Deriv}
 use Rattle.bed_deriv.specs.Opening.{replacing}
 use Rattle.bed_check_heap.specs.Steps.{Answers}
-use Rattle.bed_check_heap.specs.Instances.{matched_node}
+use Rattle.bed_deriv.specs.Instances.{matched_node}
 use Rattle.bed_check_heap.proofs.instances.matched.Goals as goal
 
 pub returns-in-Ok : goal.returns-in-Ok

@@ -1,7 +1,7 @@
 use Rattle.std.proofs.Common.{◌≡◌, drop, map}
 use Rattle.bed_deriv.specs.Walk.{walk, walk_all}
 use Rattle.bed_check_pure.specs.Answers.{built_table}
-use Rattle.bed_check_heap.specs.Steps.{sequents}
+use Rattle.bed_deriv.specs.Nodes.{sequents}
 use Rattle.bed_check_heap.proofs.walk.children_walked.Given as goal
 
 abbrev pub invariant-loop-child : goal.invariant-loop-child
