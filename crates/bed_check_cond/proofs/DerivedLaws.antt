@@ -49,7 +49,8 @@ use Rattle.bed_check_cond.proofs.ReadLaws.{reads_known}
 use Rattle.bed_check_cond.proofs.EndLaws.{IsKnownRest, ClosesBy, finish_by}
 use Rattle.bed_check_cond.proofs.ActionLaws.{action_closes}
 use Rattle.bed_check_cond.proofs.CallLaws.{call_closes}
-use Rattle.bed_check_cond.proofs.GrownLaws.{AllGrown, rule_grown}
+use Rattle.bed_check_cond.proofs.GrownLaws.{rule_grown}
+use Rattle.bed_check_cond.specs.States.{AllGrown}
 use Rattle.bed_check_cond.proofs.RestLaws.{AllKnown, step_known}
 use Rattle.bed_check_cond.proofs.BeginLaws.{condition_opens}
 

@@ -16,5 +16,4 @@ pub mod AppendLaws
 pub mod WithoutLaws
 pub mod AnswerLaws
 pub mod RoomLaws
-pub mod RefusalLaws
 pub mod ExampleLaws

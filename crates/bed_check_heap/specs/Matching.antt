@@ -7,7 +7,7 @@ use Rattle.bed_deriv.specs.declared.state.SymState.{SymState}
 use Rattle.bed_deriv.specs.Matches.{all_different, numbers_left, match_goals}
 use Rattle.bed_deriv.specs.Checks.{Check, Needs, Given, Leaves}
 use Rattle.bed_check_pure.specs.declared.fault.Fault.{Fault}
-use Rattle.bed_check_pure.specs.declared.fault.Fault.TheVariants.{Premise, Memory}
+use Rattle.bed_check_pure.specs.declared.fault.Fault.TheVariants.{Count, Argument, Condition, Memory}
 use Rattle.bed_check_heap.specs.declared.instances.Match.{Match}
 use Rattle.bed_deriv.specs.Instances.{Matched}
 
@@ -21,5 +21,7 @@ match_chosen s ts cs = Needs 3 (all_different cs) (match_left s cs (match_goals 
 -- the answer of a match is this, but for want of memory
 abbrev pub AnswersMatch : Result Match Fault → Result Matched ℕ → Type 0
 AnswersMatch (Ok m) r = r ≡ Ok (record { goals = m.goals; left = m.left })
-AnswersMatch (Err (Premise p)) r = r ≡ Err p
+AnswersMatch (Err Count) r = r ≡ Err 1
+AnswersMatch (Err Argument) r = r ≡ Err 2
+AnswersMatch (Err Condition) r = r ≡ Err 3
 AnswersMatch (Err Memory) r = Unit {0}

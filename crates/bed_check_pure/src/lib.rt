@@ -9,6 +9,6 @@ mod refusals;
 mod rules;
 mod verdict;
 
-pub use check::{check_pure, check_sequent};
+pub use check::{check_pure, check_sequent, fact_rule};
 pub use fault::Fault;
 pub use verdict::Verdict;

@@ -1,5 +1,5 @@
 -- A tree written anew word by word under an instance is the tree under that instance.
-use Rattle.std.proofs.Common.{◌≡◌, List, [], ◌∷◌, map, refl, ap₂}
+use Rattle.std.proofs.Common.{◌≡◌, List, [], ◌∷◌, map, refl, ap, ap₂}
 use Rattle.bed_lang.specs.declared.logic.Arg.{Arg}
 use Rattle.bed_lang.specs.declared.logic.Arg.TheVariants as arg
 use Rattle.bed_lang.specs.declared.logic.Pure.{Pure}
@@ -32,4 +32,4 @@ pub atom_read : (σ : Instance) (x : Atom) → atom_by (word_with σ) (seq_with 
 atom_read σ (atom.Cell a v) = refl
 atom_read σ (atom.Byte a v) = refl
 atom_read σ (atom.Block a n) = refl
-atom_read σ (atom.Pred name args) i = atom.Pred name (args_read σ args i)
+atom_read σ (atom.Pred name args) = ap (λ (more : List Arg). atom.Pred name more) (args_read σ args)

@@ -1,4 +1,5 @@
 pub mod Fresh
+pub mod HintsFresh
 pub mod Arguments
 pub mod Opening
 pub mod Readings

@@ -3,7 +3,7 @@ ghost use Rattle.std.specs.Prelude.{◌≡◌, IfOk};
 ghost use Rattle.std.specs.Option.{option_copied};
 ghost use Rattle.bed_lang.specs.Values.{variable};
 ghost use Rattle.bed_lang.specs.Instances.{word_with, seq_with};
-ghost use Rattle.bed_deriv.specs.Opening.{has_sort, word_in, seq_in, value_for, occurrence, word_instead, seq_instead, word_or_0, seq_or_nil, word_set, seq_set};
+ghost use Rattle.bed_deriv.specs.Opening.{has_sort, word_in, seq_in, value_for, occurrence, word_instead, seq_instead, word_or_0, seq_or_nil, word_set, seq_set, replacing, with_answer};
 ghost use Rattle.bed_deriv.specs.Readings.{instance_of};
 
 use bed_lang::{Arg, Box, List, Name, Seq, Sort, Var, Word};
@@ -174,7 +174,7 @@ fn word_or_answer(
     values: &[(Name, Arg)],
     v: &Var,
 ) -> Result<Word, AllocError>
-    ensures { IfOk result (λ r. r ≡ (instance_of (Reading.Answer answer values)).words (variable v.now)) }
+    ensures { IfOk result (λ r. r ≡ (with_answer answer.now (replacing values.now)).words (variable v.now)) }
 {
     match v {
         Var::Answer(_) => answer.copy(alloc),
