@@ -3,8 +3,8 @@ ghost use Rattle.std.specs.Prelude.{◌≡◌, ◌<◌, length, Some, IfOk};
 ghost use Rattle.bed_deriv.specs.Arguments.{to_number};
 ghost use Rattle.bed_deriv.specs.Matches.{atom_numbered, chosen, is_chosen, all_different, numbers_left, atoms_left};
 
-use crate::derivation::DArg;
 use crate::arguments::numbered;
+use crate::derivation::DArg;
 use bed_lang::{Atom, List};
 use std::alloc::{AllocError, Global};
 

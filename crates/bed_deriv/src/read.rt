@@ -15,6 +15,7 @@ struct AsRead<'a>(&'a Reading<'a>);
 
 impl Rewrite for AsRead<'_> {
     ghost words = { λ way. word_with (instance_of way.0.now) };
+
     ghost seqs = { λ way. seq_with (instance_of way.0.now) };
 
     fn word(&self, alloc: Global, w: &Word) -> Result<Word, AllocError> {
@@ -32,6 +33,7 @@ struct Anew<'a>(&'a Reading<'a>);
 
 impl Rewrite for Anew<'_> {
     ghost words = { λ way. replaced_word (instance_of way.0.now) };
+
     ghost seqs = { λ way. replaced_seq (instance_of way.0.now) };
 
     fn word(&self, alloc: Global, w: &Word) -> Result<Word, AllocError> {

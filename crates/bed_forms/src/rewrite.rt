@@ -11,6 +11,7 @@ use std::alloc::{AllocError, Global};
 /// A way of writing words and sequences anew.
 pub trait Rewrite {
     ghost words: { Self → Word → Word };
+
     ghost seqs: { Self → Seq → Seq };
 
     /// The word written anew.
@@ -28,7 +29,12 @@ pub trait Rewrite {
         ensures { IfOk result (λ r. r ≡ seqs self.now s.now) };
 }
 
-fn two_words<R: Rewrite>(alloc: Global, way: &R, a: &Word, b: &Word) -> Result<(Word, Word), AllocError>
+fn two_words<R: Rewrite>(
+    alloc: Global,
+    way: &R,
+    a: &Word,
+    b: &Word,
+) -> Result<(Word, Word), AllocError>
     ensures { IfOk result (λ r. r ≡ (R.words way.now a.now, R.words way.now b.now)) }
 {
     match way.word(alloc, a) {
@@ -210,7 +216,12 @@ fn block<R: Rewrite>(alloc: Global, way: &R, e: &Word, v: &Word) -> Result<Atom,
     }
 }
 
-fn pred<R: Rewrite>(alloc: Global, way: &R, name: &Name, args: &List<Arg>) -> Result<Atom, AllocError>
+fn pred<R: Rewrite>(
+    alloc: Global,
+    way: &R,
+    name: &Name,
+    args: &List<Arg>,
+) -> Result<Atom, AllocError>
     ensures { IfOk result (λ r. r ≡ atom_by (R.words way.now) (R.seqs way.now) (Atom.Pred name.now args.now)) }
 {
     let name = name.copy(alloc)?;
