@@ -1,5 +1,5 @@
-use Rattle.std.proofs.Common.{refl}
+use Rattle.std.proofs.Common.{refl, ap}
 use Rattle.bed_read.proofs.item.predicates_and_code.Goals as goal
 
 pub returns : goal.returns
-returns c = ((c.in_ok-predicates.predicates, c.in_ok-code.ensures.0), rw (c.in_ok-predicates.ensures, c.in_ok-code.ensures.1) refl, cc)
+returns c = ((c.in_ok-predicates.predicates, c.in_ok-code.ensures.0), rw (c.in_ok-predicates.ensures, c.in_ok-code.ensures.1) refl, ap (λ x. (c.in_ok-predicates.predicates, x)) c.in_ok-code.ensures.2)

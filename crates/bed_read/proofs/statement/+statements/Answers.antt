@@ -1,4 +1,4 @@
-use Rattle.std.proofs.Common.{sym, refl}
+use Rattle.std.proofs.Common.{sym, refl, ap}
 use Rattle.bed_grammar.proofs.Reading.{pushed, finished}
 use Rattle.bed_read.proofs.Shorter.{shorter_statement}
 use Rattle.bed_read.proofs.Lists.{statements_more, statements_done}
@@ -23,4 +23,4 @@ pub over_and_body-returns : goal.over_and_body-returns
 over_and_body-returns t c = ((c.in_ok-over.over, (c.in_ok-body.body, c.in_ok-body.field-0-0-1)), rw (c.in_ok-over.ensures, c.in_ok-body.ensures) refl, refl)
 
 pub key_and_body-returns : goal.key_and_body-returns
-key_and_body-returns t c = ((c.in_ok-rest.field-0-0.now, (c.in_ok-key.key, c.in_ok-turn.ensures.0)), rw (c.in_ok-rest.ensures.read, c.in_ok-key.ensures, c.in_ok-turn.ensures.1) refl, cc)
+key_and_body-returns t c = ((c.in_ok-rest.field-0-0.now, (c.in_ok-key.key, c.in_ok-turn.ensures.0)), rw (c.in_ok-rest.ensures.read, c.in_ok-key.ensures, c.in_ok-turn.ensures.1) refl, ap (λ x. (c.in_ok-key.key.1, x)) c.in_ok-turn.ensures.2)
