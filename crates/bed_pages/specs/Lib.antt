@@ -1,0 +1,3 @@
+pub mod Zeros
+pub mod Pages
+pub mod PagesIsMemory
