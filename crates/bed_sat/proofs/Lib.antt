@@ -18,14 +18,14 @@ mod SignatureLaws
 mod ExtensionLaws
 mod StartLaws
 pub mod LinkingLaws
-mod ConditionLaws
+pub mod ConditionLaws
 mod ConditionExamples
 mod ListLoopExamples
 mod ValidExamples
 mod RefutedExamples
 mod WrittenLaws
 mod WrittenParts
-mod PathLaws
+pub mod PathLaws
 mod WrittenCode
 mod SoundExamples
 mod OutsideExamples
