@@ -1,0 +1,4 @@
+mod ListLemmas
+mod ArgumentLemmas
+mod RunLemmas
+pub mod HostedLaws

@@ -1,0 +1,4 @@
+pub mod Hosted
+pub mod Runs
+pub mod Calls
+pub mod Inside
