@@ -1,7 +1,12 @@
-pub mod ClauseLaws
-pub mod DueLaws
-pub mod ReportLaws
-pub mod ReturnLaws
-pub mod StageLaws
-pub mod TextLaws
-pub mod TreeLaws
+mod CallLemmas
+mod ChainLemmas
+mod ClauseLemmas
+mod FileLemmas
+mod LeafLemmas
+mod ReadLemmas
+mod ReportLemmas
+mod ReturnLemmas
+mod RowLemmas
+mod StageLemmas
+mod TextLemmas
+mod TreeLemmas

@@ -2,8 +2,14 @@ pub mod Codes
 pub mod Places
 pub mod Returns
 pub mod Causes
+pub mod Views
+pub mod Stages
+pub mod Lines
 pub mod Files
 pub mod Work
-pub mod Lines
+pub mod Chains
+pub mod Gives
+pub mod Writes
+pub mod Puts
 pub mod Outcomes
 pub mod Promises

@@ -2,12 +2,16 @@
 #![tactic(auto)]
 
 mod asked;
-mod build;
 mod call;
-mod lines;
+mod files;
+mod judge;
+mod line;
 mod modules;
 mod place;
+mod plan;
+mod report;
 mod returns;
+mod stages;
 mod status;
 mod texts;
 
