@@ -1,5 +1,5 @@
 -- From the parts to the whole run.
-use Rattle.std.proofs.Common.{◌≡◌, ℕ, ◌≤◌, ◌<◌, false, IsTrue, IsSome, All, List, [], ◌∷◌, ◌++◌, length, map, Result, Ok, Err, Vec, inl, inr, refl, sym, ◌∙◌, ap, subst, IsErrAnd, OnErr, IsErrOf, arith}
+use Rattle.std.proofs.Common.{◌≡◌, ℕ, ◌≤◌, ◌<◌, false, IsTrue, IsSome, All, List, [], ◌∷◌, ◌++◌, length, map, Result, Ok, Err, Vec, vec_len, inl, inr, refl, sym, ◌∙◌, ap, subst, IsErrAnd, OnErr, IsErrOf, arith}
 use Rattle.std.proofs.lemmas.List.{length-map}
 use Rattle.std.specs.declared.alloc.Global.{Global}
 use Rattle.bed_io.specs.Counts.{Rose}
@@ -204,3 +204,6 @@ link_calm words job old new asked tells h = record {
   link = λ calm other also all. h (tells calm) calm (subst (λ (j : Job). All (λ file. IsSome (old.held file)) j.modules) (no_other words other job also asked) all);
   untouched = λ none. absurd (none job asked);
 }
+
+pub texts_counted : (buffers : Vec (Vec ℕ Global) Global) → length (texts_of buffers.items) ≡ vec_len buffers
+texts_counted buffers = length-map buffers.items (λ (b : Vec ℕ Global). b.items) ∙ sym buffers.ok.0

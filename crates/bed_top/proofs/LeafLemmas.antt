@@ -1,14 +1,15 @@
 -- From what the parts of a stage give to an outcome of it.
-use Rattle.std.proofs.Common.{◌≡◌, ◌≢◌, ◌⊎◌, inl, inr, ℕ, ◌+◌, ◌≤◌, ◌<◌, zero, suc, Bool, true, false, nat_lt, List, [], ◌∷◌, length, map, get_or, Option, Some, None, Result, Ok, Err, IfOk, Vec, refl, sym, ◌∙◌, ap, subst, arith, if◌then◌else◌}
+use Rattle.std.proofs.Common.{◌≡◌, ◌≢◌, ◌⊎◌, inl, inr, ℕ, ◌+◌, ◌-◌, ◌≤◌, ◌<◌, zero, suc, Bool, true, false, nat_lt, List, [], ◌∷◌, length, take, drop, map, get_or, Option, Some, None, Result, Ok, Err, IfOk, IfErr, Vec, refl, sym, ◌∙◌, ap, subst, arith, if◌then◌else◌}
 use Rattle.std.specs.declared.alloc.Global.{Global}
 use Rattle.std.specs.List.{list_any}
 use Rattle.bed_lang.specs.declared.limit.Which.{Which}
+use Rattle.bed_lang.specs.declared.limit.Which.TheVariants as which
 use Rattle.bed_lang.specs.declared.module.Module.{Module}
 use Rattle.bed_names.specs.InScope.{InScope}
 use Rattle.bed_names.specs.Resolved.{resolved}
 use Rattle.bed_names.specs.declared.error.NameError.{NameError}
 use Rattle.bed_names.specs.declared.error.NameError.TheVariants as name
-use Rattle.bed_read.specs.Reading.{ReadsModule}
+use Rattle.bed_read.specs.Reading.{IsModule, ReadsModule}
 use Rattle.bed_read.specs.declared.whole.ReadError.{ReadError}
 use Rattle.bed_read.specs.declared.whole.ReadError.TheVariants as read
 use Rattle.bed_words.specs.declared.command.Command.{Command}
@@ -21,20 +22,21 @@ use Rattle.bed_words.specs.Limits.{limit_of}
 use Rattle.bed_words.specs.Usage.{IsUsage, PassesLimit}
 use Rattle.bed_top.specs.Views.{View, view, Refusal, Source, source}
 use Rattle.bed_top.specs.Stages.{Stage, By}
-use Rattle.bed_top.specs.Causes.{word_at, unbuilt_word, Asks, unbuilt_file, AreModules, FirstRefused, function_count, first_misnamed}
+use Rattle.bed_top.specs.Causes.{word_at, unbuilt_word, Asks, unbuilt_file, AreModules, FirstRefused, function_count, first_misnamed, is_long, most_functions}
 use Rattle.bed_top.specs.Returns.{module_is_built, broken_condition}
-use Rattle.bed_top.specs.Work.{not_built, unread, misnamed, misnamed_in, broken_promise, or_refuse, IsCommanded, no_command, passes_limit, is_command, IsAsked, unbuilt, asks, IsRead, not_read, all_read, scoped_of, built_of, judged_of}
+use Rattle.bed_top.specs.Work.{past_limit, not_built, unread, misnamed, misnamed_in, broken_promise, or_refuse, IsCommanded, no_command, passes_limit, is_command, IsAsked, unbuilt, asks, IsRead, not_read, all_read, lengths_of, counted_of, scoped_of, built_of, judged_of}
 use Rattle.bed_top.specs.Gives.{texts_of, modules_of, one_line, stop_of, IsStop, Given, Gives, as_one, as_read, as_scoped}
 use Rattle.bed_top.specs.Outcomes.{IsRefusedFrom, holds_long}
-use Rattle.bed_top.specs.Causes.{is_long}
-use Rattle.bed_top.proofs.ReadLemmas.{only_of, as_many_scoped, same_count}
+use Rattle.bed_top.proofs.ReadLemmas.{split_first, only_of, as_many_scoped, same_count}
+use Rattle.bed_top.specs.declared.line.Line.TheVariants as line
+use Rattle.bed_top.specs.declared.status.Status.TheVariants.{No, Limit}
 use Rattle.bed_top.specs.declared.plan.Stop.{Stop}
 use Rattle.bed_top.specs.declared.plan.Stop.TheVariants.{Refused, Memory}
 
 -- a stage that a function answers
 pub by_stop : {A B X : Type 0} (f : View → A → Refusal ⊎ B) (see : X → B) (v : View) (a : A) (r : Refusal) (s : Stop) → IsStop r s → f v a ≡ inl r
     → Gives {X = X} (By f) see v a (Err s)
-by_stop f see v a r (Refused st line) is e = record { is = ap inl is ∙ sym e }
+by_stop f see v a r (Refused st l) is e = record { is = ap inl is ∙ sym e }
 by_stop f see v a r Memory is e = record { is = tt }
 
 pub by_pass : {A B X : Type 0} (f : View → A → Refusal ⊎ B) (see : X → B) (v : View) (a : A) (x : X) → f v a ≡ inr (see x) → Gives (By f) see v a (Ok x)
@@ -59,7 +61,7 @@ commanded_pass words texts c stands within = record { is = is_command c stands w
 
 pub asked_stop : (words texts : List (List ℕ)) (c : Command) (what : List ℕ) → unbuilt_word words c ≡ Some what → (s : Stop) → IsStop (not_built what) s
     → Gives {X = Job} IsAsked (λ j. j) (view words texts) c (Err s)
-asked_stop words texts c what h (Refused st line) is = record { is = unbuilt what h (ap inl is) }
+asked_stop words texts c what h (Refused st l) is = record { is = unbuilt what h (ap inl is) }
 asked_stop words texts c what h Memory is = record { is = tt }
 
 pub asked_pass : (words texts : List (List ℕ)) (c : Command) (job : Job) → c ≡ command.Link job → unbuilt_word words c ≡ None
@@ -110,7 +112,7 @@ read_refused : (job : Job) (words texts : List (List ℕ)) (file : ℕ) (called 
     → text ≡ word_at texts file → (at : List ℕ) × FirstRefused 0 texts file at e → (s : Stop) → IsStop (unread file called text e) s
     → Gives {X = Vec Module Global} IsRead (as_read job) (view words texts) job (Err s)
 read_refused job words texts file called text e named is h Memory stop = record { is = tt }
-read_refused job words texts file called text e named is h (Refused st line) stop =
+read_refused job words texts file called text e named is h (Refused st l) stop =
     let r = refused_text 0 texts file h.0 e h.1 in
     let same : h.0 ≡ text = r.2 ∙ ap (word_at texts) (let here : r.0 ≡ file = omega (arith, r.1) in here) ∙ sym is in
     record {
@@ -200,3 +202,52 @@ pub few_scoped : (ms : List Module) (r : Result (Vec InScope Global) Stop) → f
     → IfOk r (λ s. function_count (modules_of s.items) ≤ 1024)
 few_scoped ms (Ok s) few h = let same = ap function_count h in let count = same_count ms in omega (arith, same, count, few)
 few_scoped ms (Err e) few h = tt
+
+-- The stages whose answer is a test.
+
+limit_stop : (w : Which) (s : Stop) → s ≡ Refused (Limit w) (line.Limit w) → IsStop (past_limit w) s
+limit_stop w s same = subst (IsStop (past_limit w)) (sym same) refl
+
+pub lengths_stop : (words : List (List ℕ)) (buffers : List (Vec ℕ Global)) (job : Job) (s : Stop) → list_any holds_long buffers ≡ true
+    → s ≡ Refused (Limit which.Text) (line.Limit which.Text) → Gives {X = Unit {0}} (By lengths_of) (λ _. job) (view words (texts_of buffers)) job (Err s)
+lengths_stop words buffers job s long same =
+    by_stop lengths_of (λ _. job) (view words (texts_of buffers)) job (past_limit which.Text) s (limit_stop which.Text s same)
+    (ap (λ b. if b then inl (past_limit which.Text) else inr job) (long_texts buffers ∙ long))
+
+pub lengths_pass : (words : List (List ℕ)) (buffers : List (Vec ℕ Global)) (job : Job) (x : Unit {0}) → list_any holds_long buffers ≡ false
+    → Gives (By lengths_of) (λ _. job) (view words (texts_of buffers)) job (Ok x)
+lengths_pass words buffers job x short =
+    by_pass lengths_of (λ _. job) (view words (texts_of buffers)) job x (ap (λ b. if b then inl (past_limit which.Text) else inr job) (long_texts buffers ∙ short))
+
+pub counted_stop : (v : View) (job : Job) (ms : Vec Module Global) (s : Stop) → nat_lt most_functions (function_count ms.items) ≡ true
+    → s ≡ Refused (Limit which.Functions) (line.Limit which.Functions) → Gives {X = Vec Module Global} (By counted_of) (as_read job) v (source job ms.items) (Err s)
+counted_stop v job ms s many same =
+    by_stop counted_of (as_read job) v (source job ms.items) (past_limit which.Functions) s (limit_stop which.Functions s same)
+    (ap (λ b. if b then inl (past_limit which.Functions) else inr (source job ms.items)) many)
+
+pub counted_pass : (v : View) (job : Job) (ms : Vec Module Global) → nat_lt most_functions (function_count ms.items) ≡ false
+    → Gives (By counted_of) (as_read job) v (source job ms.items) (Ok ms)
+counted_pass v job ms few =
+    by_pass counted_of (as_read job) v (source job ms.items) ms (ap (λ b. if b then inl (past_limit which.Functions) else inr (source job ms.items)) few)
+
+pub judged_stop : (v : View) (job : Job) (m : Module) (k : ℕ) → broken_condition m ≡ Some k
+    → Gives {X = Module} (By judged_of) (as_one job) v (as_one job m) (Err (Refused (No k None) (line.Condition k)))
+judged_stop v job m k broken =
+    by_stop judged_of (as_one job) v (as_one job m) (broken_promise k) (Refused (No k None) (line.Condition k)) refl
+    (ap (λ o. or_refuse broken_promise o (as_one job m)) broken)
+
+pub judged_pass : (v : View) (job : Job) (m : Module) → broken_condition m ≡ None → Gives (By judged_of) (as_one job) v (as_one job m) (Ok m)
+judged_pass v job m kept = by_pass judged_of (as_one job) v (as_one job m) m (ap (λ o. or_refuse broken_promise o (as_one job m)) kept)
+
+pub only_same : (ms : List Module) (t : Module) (r : Result Module Stop) → ms ≡ t ∷ [] → IfOk r (λ m. m ≡ t) → IfOk r (λ m. ms ≡ m ∷ [])
+only_same ms t (Ok m) one h = one ∙ ap (λ (x : Module). x ∷ []) (sym h)
+only_same ms t (Err e) one h = tt
+
+-- the first text is that of a module
+pub refused_more : {T : Type 0} (k : ℕ) (xs : List (Vec ℕ Global)) (x : Vec ℕ Global) (m : Module) (text : List ℕ) (r : Result T (ℕ × ReadError)) → 1 ≤ length xs
+    → x ≡ get_or xs 0 x → text ≡ x.items → ReadsModule text (Ok m) → IfErr r (IsRefusedFrom (k + 1) (texts_of (take (length xs - 1) (drop 1 xs))))
+    → IfErr r (IsRefusedFrom k (texts_of xs))
+refused_more k xs x m text (Ok y) some is of reads h = tt
+refused_more k xs x m text (Err at) some is of reads h =
+    subst (λ (ys : List (Vec ℕ Global)). IsRefusedFrom k (texts_of ys) at) (split_first xs x some is) (λ other.
+    let later = h other in (later.0, inr (m, subst (λ (t : List ℕ). IsModule t m) of (reads.0, reads.1, reads.2.0), later.1)))

@@ -132,7 +132,23 @@ fn unbuilt_number(first: &Module) -> usize
     if is_built(first) { 1 } else { 0 }
 }
 
-/// The one module, where it is built.
+/// The only module, where it is built.
+fn built_only(alloc: Global, job: &Job, tried: &Module) -> Result<Module, Stop>
+    ensures gives { (v : View) → Gives (By built_of) (as_one job.now) v (as_one job.now tried.now) result }
+    ensures built { IfOk result (λ m. module_is_built m ≡ true) }
+    ensures same { IfOk result (λ m. m ≡ tried.now) }
+{
+    if is_built(tried) {
+        match tried.copy(alloc) {
+            Ok(module) => Ok(module),
+            Err(_) => Err(Stop::Memory),
+        }
+    } else {
+        Err(refuse_unbuilt(alloc, file_name(job, 0)))
+    }
+}
+
+/// The one module, where there is one and it is built.
 fn built(alloc: Global, job: &Job, scoped: Vec<Scoped>) -> Result<Module, Stop>
     requires some { 1 ≤ length scoped.items }
     ensures gives { (v : View) → Gives (By built_of) (as_one job.now) v (as_scoped job.now scoped) result }
@@ -142,14 +158,11 @@ fn built(alloc: Global, job: &Job, scoped: Vec<Scoped>) -> Result<Module, Stop>
     match scoped.as_slice() {
         [only] => {
             let tried = only.module();
-            if is_built(tried) {
-                Ok(tried.copy(alloc)?)
-            } else {
-                Err(refuse_unbuilt(alloc, file_name(job, 0)))
-            }
+            built_only(alloc, job, tried)
         }
         [first, _, ..] => {
-            let number = unbuilt_number(first.module());
+            let head = first.module();
+            let number = unbuilt_number(head);
             Err(refuse_unbuilt(alloc, file_name(job, number)))
         }
         [] => unreachable!(),
