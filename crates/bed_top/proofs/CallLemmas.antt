@@ -1,5 +1,5 @@
 -- From the parts to the whole run.
-use Rattle.std.proofs.Common.{◌≡◌, ℕ, ◌≤◌, ◌<◌, false, IsTrue, IsSome, All, List, [], ◌∷◌, ◌++◌, length, map, Result, Ok, Err, Vec, vec_len, inl, inr, refl, sym, ◌∙◌, ap, subst, IsErrAnd, OnErr, IsErrOf, arith}
+use Rattle.std.proofs.Common.{◌≡◌, ℕ, ◌≤◌, ◌<◌, false, IsTrue, IsSome, All, List, [], ◌∷◌, ◌++◌, length, map, Result, Ok, Err, IfOk, Vec, vec_len, inl, inr, refl, sym, ◌∙◌, ap, subst, IsErrAnd, OnErr, IsErrOf, arith}
 use Rattle.std.proofs.lemmas.List.{length-map}
 use Rattle.std.specs.declared.alloc.Global.{Global}
 use Rattle.bed_io.specs.Counts.{Rose}
@@ -10,12 +10,12 @@ use Rattle.bed_words.specs.declared.command.Command.TheVariants as command
 use Rattle.bed_words.specs.declared.command.Job.{Job}
 use Rattle.bed_words.proofs.CommandLaws.{one_command}
 use Rattle.bed_top.specs.Views.{View, view, End, Refusal, refused, Written, Source}
-use Rattle.bed_top.specs.Causes.{word_at, Asks}
+use Rattle.bed_top.specs.Causes.{word_at, Asks, function_count}
 use Rattle.bed_top.specs.Files.{HasRead, IsAbsent, SameCounts, KeepsCalm}
-use Rattle.bed_top.specs.Lines.{text_of, read_fault_line}
+use Rattle.bed_top.specs.Lines.{text_of, read_fault_line, linked_line}
 use Rattle.bed_top.specs.Stages.{Stage, Then, Ends, refuses, passes}
-use Rattle.bed_top.specs.Gives.{texts_of, Given, Gives, one_line, end_of, Concluded, Judged, as_one}
-use Rattle.bed_top.specs.Work.{link_end}
+use Rattle.bed_top.specs.Gives.{texts_of, Given, Gives, one_line, end_of, written_of, Concluded, Judged, as_one}
+use Rattle.bed_top.specs.Work.{image_write, done_with, link_end}
 use Rattle.bed_top.specs.Chains.{asking, linking, Due}
 use Rattle.bed_top.specs.Writes.{Wrote, Stopped, WriteOutcome, Writes}
 use Rattle.bed_top.specs.Puts.{Owed, owes}
@@ -27,7 +27,9 @@ use Rattle.bed_top.proofs.StageLemmas.{apart, ends_after, ends_stopped}
 use Rattle.bed_top.specs.declared.plan.Fault.{Fault}
 use Rattle.bed_top.specs.declared.plan.Fault.TheVariants as fault
 use Rattle.bed_top.specs.declared.line.Line.{Line}
+use Rattle.bed_table.specs.Layout.{code_length}
 use Rattle.bed_top.specs.declared.plan.Plan.{Plan}
+use Rattle.bed_top.specs.declared.plan.Write.{Write}
 use Rattle.bed_top.specs.declared.plan.Stop.{Stop}
 use Rattle.bed_top.specs.declared.plan.Stop.TheVariants.{Refused, Memory}
 use Rattle.bed_top.specs.declared.status.Status.{Status}
@@ -207,3 +209,14 @@ link_calm words job old new asked tells h = record {
 
 pub texts_counted : (buffers : Vec (Vec ℕ Global) Global) → length (texts_of buffers.items) ≡ vec_len buffers
 texts_counted buffers = length-map buffers.items (λ (b : Vec ℕ Global). b.items) ∙ sym buffers.ok.0
+
+-- the end of a plan of one module
+pub plan_end : {E : Type 0} (job : Job) (m : Module) (functions bytes : ℕ) (w : Write) (r : Result Plan E) → functions ≡ length m.functions → bytes ≡ code_length (m ∷ [])
+    → written_of w ≡ image_write job (m ∷ []) → IfOk r (λ p. end_of p ≡ done_with (written_of w) (linked_line 1 functions bytes))
+    → IfOk r (λ p. (v : View) → end_of p ≡ link_end v (as_one job m))
+plan_end job m functions bytes w (Err e) fs bs ws h = tt
+plan_end job m functions bytes w (Ok p) fs bs ws h = λ v.
+    let all : functions ≡ function_count (m ∷ []) = omega (arith, fs) in
+    h ∙ ap (λ (x : Written). done_with x (linked_line 1 functions bytes)) ws
+    ∙ ap (λ (n : ℕ). done_with (image_write job (m ∷ [])) (linked_line 1 n bytes)) all
+    ∙ ap (λ (b : ℕ). done_with (image_write job (m ∷ [])) (linked_line 1 (function_count (m ∷ [])) b)) bs

@@ -18,7 +18,7 @@ use Rattle.bed_words.specs.declared.command.Job.{Job}
 use Rattle.bed_words.specs.Commands.{IsCommand}
 use Rattle.bed_words.specs.Limits.{limit_of}
 use Rattle.bed_words.specs.Usage.{IsUsage, PassesLimit}
-use Rattle.bed_top.specs.Views.{View, End, Refusal, refusal_of, Source, source}
+use Rattle.bed_top.specs.Views.{View, Written, End, Refusal, refusal_of, Source, source}
 use Rattle.bed_top.specs.Causes.{is_long, most_functions, word_at, unbuilt_word, AreModules, FirstRefused, function_count, first_misnamed, unbuilt_file, broken_of}
 use Rattle.bed_top.specs.Files.{out_file}
 use Rattle.bed_top.specs.Lines.{usage_line, syntax_line, names_line, limit_line, condition_line, not_built_line, memory_line, linked_line}
@@ -126,10 +126,14 @@ built_of v s = or_refuse not_built (unbuilt_file s.job.modules s.modules) s
 abbrev pub judged_of : View → Source → Refusal ⊎ Source
 judged_of v s = or_refuse broken_promise (broken_of s.modules) s
 
+-- the image of modules, under the name that the job gives it
+abbrev pub image_write : Job → List Module → Written
+image_write job modules = record { name = out_file job; bytes = image modules base [] }
+
+-- all was well: one file is written, and one line is put
+abbrev pub done_with : Written → List ℕ → End
+done_with write line = record { status = Done; writes = write ∷ []; lines = line ∷ [] }
+
 -- the end of a link: the image is written
 abbrev pub link_end : View → Source → End
-link_end v s = record {
-  status = Done;
-  writes = record { name = out_file s.job; bytes = image s.modules base [] } ∷ [];
-  lines = linked_line (length s.modules) (function_count s.modules) (code_length s.modules) ∷ [];
-}
+link_end v s = done_with (image_write s.job s.modules) (linked_line (length s.modules) (function_count s.modules) (code_length s.modules))

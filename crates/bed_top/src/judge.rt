@@ -1,11 +1,13 @@
 //! The judgement of a link: what is due by its texts.
 ghost use Rattle.std.specs.Prelude.{◌≡◌, ◌<◌, ◌≤◌, ◌^◌, ℕ, List, length, true, None, IfOk};
 ghost use Rattle.bed_top.specs.Files.{out_file};
-ghost use Rattle.bed_top.specs.Gives.{as_one, end_of, texts_of, Judged};
+ghost use Rattle.bed_table.specs.Layout as layout;
+ghost use Rattle.bed_top.specs.Gives.{as_one, end_of, texts_of, written_of, Judged};
+ghost use Rattle.bed_top.specs.Lines.{text_of};
 ghost use Rattle.bed_top.specs.Outcomes.{AreCut};
 ghost use Rattle.bed_top.specs.Returns.{broken_condition, module_is_built};
 ghost use Rattle.bed_top.specs.Views.{view, View};
-ghost use Rattle.bed_top.specs.Work.{link_end};
+ghost use Rattle.bed_top.specs.Work.{done_with, image_write, link_end};
 
 use crate::line::Line;
 use crate::plan::{Plan, Stop, Write};
@@ -29,6 +31,31 @@ fn out_name(job: &Job) -> &[u8]
     }
 }
 
+/// The write of the image.
+fn link_write(alloc: Global, job: &Job, modules: &[Module]) -> Result<Write, AllocError>
+    requires short { layout.code_length modules.now ≤ 1048576 }
+    ensures { IfOk result (λ w. written_of w ≡ image_write job.now modules.now) }
+{
+    let bytes = image(alloc, modules, BASE, &[])?;
+    let name = List::from_slice(alloc, out_name(job))?;
+    Ok(Write { name, bytes })
+}
+
+/// A plan of one write and one line.
+fn plan_of(alloc: Global, write: Write, line: Line) -> Result<Plan, AllocError>
+    ensures { IfOk result (λ p. end_of p ≡ done_with (written_of write) (text_of line)) }
+{
+    let mut lines = Vec::new(alloc);
+    lines.push(line)?;
+    let mut writes = Vec::new(alloc);
+    writes.push(write)?;
+    Ok(Plan {
+        status: Status::Done,
+        writes,
+        lines,
+    })
+}
+
 /// The write of the image and the line of a link that is done.
 fn plan_link(alloc: Global, job: &Job, linked: Module) -> Result<Plan, AllocError>
     requires built { module_is_built linked ≡ true }
@@ -36,23 +63,16 @@ fn plan_link(alloc: Global, job: &Job, linked: Module) -> Result<Plan, AllocErro
     requires few { length linked.functions ≤ 1024 }
     ensures { IfOk result (λ p. (v : View) → end_of p ≡ link_end v (as_one job.now linked)) }
 {
+    let functions = linked.functions.len() as u64;
     let modules = [linked];
-    let functions = modules[0].functions.len() as u64;
-    let mut lines = Vec::new(alloc);
-    lines.push(Line::Linked {
+    let bytes = code_length(&modules);
+    let write = link_write(alloc, job, &modules)?;
+    let line = Line::Linked {
         modules: 1,
         functions,
-        bytes: code_length(&modules),
-    })?;
-    let bytes = image(alloc, &modules, BASE, &[])?;
-    let name = List::from_slice(alloc, out_name(job))?;
-    let mut writes = Vec::new(alloc);
-    writes.push(Write { name, bytes })?;
-    Ok(Plan {
-        status: Status::Done,
-        writes,
-        lines,
-    })
+        bytes,
+    };
+    plan_of(alloc, write, line)
 }
 
 /// What is due.
