@@ -107,17 +107,18 @@ read_whole job names before after old mid r none named (more, told, cut, h) =
       subst (λ ns. ReadsTexts old mid ns (texts_of after) r) named (subst (λ ts. ReadsTexts old mid names ts r) (sym same) h),
     )
 
-has_read : {T : Type 0} (job : Job) (texts : List (List ℕ)) (old mid : FilesState) (x : T) → ReadsTexts {T = T} old mid job.modules texts (Ok x) → HasRead job texts old
-has_read job texts old mid x h = record { each = h.each; told = h.told }
+has_read : {T : Type 0} (job : Job) (texts : List (List ℕ)) (old mid : FilesState) (x : T) → 1 ≤ length job.modules → ReadsTexts {T = T} old mid job.modules texts (Ok x)
+    → HasRead job texts old
+has_read job texts old mid x some h = let each : length texts ≡ length job.modules = h.each in record { each = each; some = omega (arith, some, each); told = h.told }
 
 pub as_many_texts : {T : Type 0} (job : Job) (buffers : List (Vec ℕ Global)) (old mid : FilesState) (x : T) → ReadsTexts {T = T} old mid job.modules (texts_of buffers) (Ok x)
     → length buffers ≡ length job.modules
 as_many_texts job buffers old mid x h = sym (length-map buffers (λ (b : Vec ℕ Global). b.items)) ∙ h.each
 
-pub worked_plan : {T : Type 0} (job : Job) (words texts : List (List ℕ)) (p : Plan) (old mid new : FilesState) (x : T) (owed : Owed) → Asks words job
+pub worked_plan : {T : Type 0} (job : Job) (words texts : List (List ℕ)) (p : Plan) (old mid new : FilesState) (x : T) (owed : Owed) → Asks words job → 1 ≤ length job.modules
     → ReadsTexts {T = T} old mid job.modules texts (Ok x) → Judged job (view words texts) (Ok p) → Acts (end_of p) mid new owed → Worked words texts old new owed
-worked_plan job words texts p old mid new x owed asked r j a =
-    acts_worked words texts (end_of p) old mid new owed (due_of words texts job old (end_of p) asked (has_read job texts old mid x r) j.is) r.same r.goes_on a
+worked_plan job words texts p old mid new x owed asked some r j a =
+    acts_worked words texts (end_of p) old mid new owed (due_of words texts job old (end_of p) asked (has_read job texts old mid x some r) j.is) r.same r.goes_on a
 
 refusal_worked : (words texts : List (List ℕ)) (old mid : FilesState) (s : Status) (line : Line) (owed : Owed) → IsDue words texts old (refused (one_line s line)) → SameFiles old mid → IsLine owed s (text_of line)
     → Worked words texts old mid owed
@@ -130,10 +131,10 @@ stopped_worked job words texts old mid (Refused s line) owed asked read same d h
     refusal_worked words texts old mid s line owed (due_of words texts job old (refused (one_line s line)) asked read d) same h
 stopped_worked job words texts old mid Memory owed asked read same d h = short same h
 
-pub worked_refusal : {T : Type 0} (job : Job) (words texts : List (List ℕ)) (e : Stop) (old mid : FilesState) (x : T) (owed : Owed) → Asks words job
+pub worked_refusal : {T : Type 0} (job : Job) (words texts : List (List ℕ)) (e : Stop) (old mid : FilesState) (x : T) (owed : Owed) → Asks words job → 1 ≤ length job.modules
     → ReadsTexts {T = T} old mid job.modules texts (Ok x) → Judged job (view words texts) (Err e) → IsStopped e owed → Worked words texts old mid owed
-worked_refusal job words texts e old mid x owed asked r j l =
-    stopped_worked job words texts old mid e owed asked (has_read job texts old mid x r) r.same j.is l
+worked_refusal job words texts e old mid x owed asked some r j l =
+    stopped_worked job words texts old mid e owed asked (has_read job texts old mid x some r) r.same j.is l
 
 unread_line : (words texts : List (List ℕ)) (old mid : FilesState) (line : List ℕ) (owed : Owed) → Unread words texts old mid line → SameFiles old mid → IsLine owed ReadFault line
     → Worked words texts old mid owed

@@ -12,13 +12,7 @@ use Rattle.bed_names.specs.Resolved.{resolved}
 use Rattle.bed_sat.specs.Linking.{linked}
 use Rattle.bed_sat.specs.Runs.{Outside}
 use Rattle.bed_sat.specs.Sound.{IsOutsideOf, IsSound}
-use Rattle.bed_words.specs.declared.verb.Verb.{Verb}
-use Rattle.bed_words.specs.declared.verb.Verb.TheVariants as verb
-use Rattle.bed_words.specs.declared.command.Command.{Command}
-use Rattle.bed_words.specs.declared.command.Command.TheVariants as command
 use Rattle.bed_words.specs.declared.command.Job.{Job}
-use Rattle.bed_words.specs.Commands.{command_of, generates, job_of}
-use Rattle.bed_words.specs.Values.{size_of}
 use Rattle.bed_top.specs.Views.{View, view, End, Written, Source, source}
 use Rattle.bed_top.specs.Stages.{Then, Ends, passes, is_refusal}
 use Rattle.bed_top.specs.Causes.{most_text, is_long, word_at, Asks, AreModules, function_count, first_misnamed, unbuilt_file, broken_of}
@@ -45,33 +39,6 @@ as_long job texts old told read = ap (list_any is_long) (told_texts job texts ol
 
 as_held : (job : Job) (texts : List (List ℕ)) (old : FilesState) → IsTrue old.tells → HasRead job texts old → list_any is_long (contents old job) ≡ false → texts ≡ contents old job
 as_held job texts old told read none = told_texts job texts old told read ∙ whole_texts (contents old job) none
-
--- a link has a module file
-links_some : (v : Verb) (o plain : List (List ℕ)) (job : Job) → command_of v o plain ≡ Some (command.Link job) → 1 ≤ length job.modules
-links_some verb.Link o [] job e = absurd (cc)
-links_some verb.Link o (x ∷ []) job e = absurd (cc)
-links_some verb.Link o (x ∷ m ∷ ms) job e = let same : job_of o (Some x) (m ∷ ms) ≡ job = cc in subst (λ (j : Job). 1 ≤ length j.modules) same (omega arith)
-links_some verb.Check o [] job e = absurd (cc)
-links_some verb.Check o (m ∷ ms) job e = absurd (cc)
-links_some verb.Run o [] job e = absurd (cc)
-links_some verb.Run o (f ∷ []) job e = absurd (cc)
-links_some verb.Run o (f ∷ m ∷ ms) job e = absurd (cc)
-links_some verb.Exec o [] job e = absurd (cc)
-links_some verb.Exec o (i ∷ []) job e = absurd (cc)
-links_some verb.Exec o (i ∷ f ∷ []) job e = absurd (cc)
-links_some verb.Exec o (i ∷ f ∷ x ∷ xs) job e = absurd (cc)
-links_some verb.Disasm o [] job e = absurd (cc)
-links_some verb.Disasm o (i ∷ []) job e = absurd (cc)
-links_some verb.Disasm o (i ∷ x ∷ xs) job e = absurd (cc)
-links_some verb.Conditions o [] job e = absurd (cc)
-links_some verb.Conditions o (m ∷ ms) job e = absurd (cc)
-links_some verb.Gen o [] job e = absurd (cc)
-links_some verb.Gen o (k ∷ []) job e = by_size (size_of k) e
-  where
-    by_size : (s : Option ℕ) → generates s ≡ Some (command.Link job) → 1 ≤ length job.modules
-    by_size None e = absurd (cc)
-    by_size (Some n) e = absurd (cc)
-links_some verb.Gen o (k ∷ x ∷ xs) job e = absurd (cc)
 
 -- the code stands at the end of an image
 image_has_code : (ms : List Module) → HasCode (image ms base []) (linked ms base [])
@@ -130,9 +97,7 @@ written_image s ws old new is w told =
 links_of : (words texts : List (List ℕ)) (s : Source) (old new : FilesState) → IsTrue old.tells → HasRead s.job texts old → IsLinked (view words texts) s
     → new.held (out_file s.job) ≡ Some (image s.modules base []) → Links words old new
 links_of words texts s old new told read l written =
-    let some : 1 ≤ length texts = let h = links_some l.asked.stands.verb l.asked.stands.options l.asked.stands.plain s.job l.asked.stands.means in
-        omega (arith, h, read.each) in
-    let one = one_from s.job texts l.modules some l.linkable in
+    let one = one_from s.job texts l.modules read.some l.linkable in
     let same : map resolved l.modules ≡ one.one ∷ [] = ap (map resolved) one.is ∙ ap (λ (m : Module). m ∷ []) one.stays in
     let as_scoped : map resolved l.modules ≡ l.modules = same ∙ sym one.is in
     record {

@@ -1,5 +1,5 @@
 -- What a link does to the files.
-use Rattle.std.specs.Prelude.{◌≡◌, ℕ, ◌-◌, ◌^◌, ◌<◌, Bool, true, false, IsTrue, IsSome, None, List, [], length, map, All, unwrap_or}
+use Rattle.std.specs.Prelude.{◌≡◌, ℕ, ◌-◌, ◌^◌, ◌<◌, ◌≤◌, Bool, true, false, IsTrue, IsSome, None, List, [], length, map, All, unwrap_or}
 use Rattle.bed_io.specs.Files.{FilesState, SameFiles, SameFilesBut, bytes_of, up_to}
 use Rattle.bed_words.specs.declared.command.Job.{Job}
 use Rattle.bed_top.specs.Causes.{most_text, Asks}
@@ -14,6 +14,7 @@ out_file job = unwrap_or job.out []
 -- too long for a text
 pub record HasRead (job : Job) (texts : List (List ℕ)) (old : FilesState) : Type 0 where
   pub each : length texts ≡ length job.modules
+  pub some : 1 ≤ length texts
   pub told : IsTrue old.tells → texts ≡ map (λ file. up_to most_text (bytes_of old file)) job.modules
 
 -- of calm files, one whose read fails is absent, unless the count of such faults stands at its end
