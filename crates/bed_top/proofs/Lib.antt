@@ -2,6 +2,7 @@ mod CallLemmas
 mod ChainLemmas
 mod ClauseLemmas
 mod FileLemmas
+mod ImageLemmas
 mod LeafLemmas
 mod ReadLemmas
 mod ReportLemmas

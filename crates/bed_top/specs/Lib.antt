@@ -13,3 +13,4 @@ pub mod Writes
 pub mod Puts
 pub mod Outcomes
 pub mod Promises
+pub mod Laws

@@ -5,6 +5,7 @@ mod asked;
 mod call;
 mod files;
 mod judge;
+pub mod laws;
 mod line;
 mod modules;
 mod place;
