@@ -26,6 +26,7 @@ use Rattle.bed_top.specs.Promises.{contents, HasCode, Links, Headline, NoFault, 
 use Rattle.bed_top.proofs.ChainLemmas.{due_one, due_some, same_due, some_texts, Kind, refusing, linking_to, due_kind, IsLinked, linkable_passes}
 use Rattle.bed_top.proofs.RowLemmas.{given, given_memory}
 use Rattle.bed_top.proofs.TextLemmas.{cut_texts, whole_texts, cut_contents}
+use Rattle.bed_top.proofs.ImageLemmas.{resolved_have_the_image}
 use Rattle.bed_top.proofs.ReturnLemmas.{has_outside, is_sound, module_resolved}
 use Rattle.bed_top.specs.declared.status.Status.{Status}
 use Rattle.bed_top.specs.declared.status.Status.TheVariants.{Done, ReadFault, WriteFault, Memory}
@@ -99,7 +100,6 @@ links_of : (words texts : List (List ℕ)) (s : Source) (old new : FilesState) �
 links_of words texts s old new told read l written =
     let one = one_from s.job texts l.modules read.some l.linkable in
     let same : map resolved l.modules ≡ one.one ∷ [] = ap (map resolved) one.is ∙ ap (λ (m : Module). m ∷ []) one.stays in
-    let as_scoped : map resolved l.modules ≡ l.modules = same ∙ sym one.is in
     record {
       job = s.job;
       asked = l.asked;
@@ -107,7 +107,7 @@ links_of words texts s old new told read l written =
       read = subst (λ ts. AreModules ts l.modules) (as_held s.job texts old told read (sym (as_long s.job texts old told read) ∙ l.linkable.fits)) l.linkable.read;
       scoped = l.linkable.scoped;
       written = written ∙ ap (λ (ms : List Module). Some (image ms base [])) l.is;
-      as_read = ap (λ (ms : List Module). image ms base []) as_scoped;
+      as_read = resolved_have_the_image l.modules base [];
       has_code = image_has_code (map resolved l.modules);
       sound = subst (λ (ms : List Module). IsSound (linked ms base [])) (sym same) (is_sound one.one one.whole one.kept one.few);
       outside = subst (λ (ms : List Module). (X : Outside) × IsOutsideOf (linked ms base []) X) (sym same) (has_outside one.one one.whole);

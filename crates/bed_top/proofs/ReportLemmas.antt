@@ -29,13 +29,15 @@ first_broke old new line text lines rest due result e parts is err t =
     failed refl (line ++ joined rest) (inl (sym (ap joined parts))) (broke old new line (joined rest) result e err (subst (λ b. Takes old new b result) is t))
 
 -- want of memory at the first line
-pub put_short : (lines : List (List ℕ)) (due : Status) (old new : SinkState) (result : Status) → PutMemory old new result → Put lines due old new result
-put_short lines due old new result (said is took) = short is memory_line (record { first = []; rest = lines; parts = refl; is = refl }) took
-put_short lines due old new result (unsaid is h) = failed is memory_line (inr (record { first = []; rest = lines; parts = refl; is = refl })) h
+pub put_short : (lines : List (List ℕ)) (line : List ℕ) (rest : List (List ℕ)) (due : Status) (old new : SinkState) (result : Status) → lines ≡ line ∷ rest
+    → PutMemory old new result → Put lines due old new result
+put_short lines line rest due old new result parts (said is took) = short is memory_line (record { first = []; next = line; rest = rest; parts = parts; is = refl }) took
+put_short lines line rest due old new result parts (unsaid is h) = failed is memory_line (inr (record { first = []; next = line; rest = rest; parts = parts; is = refl })) h
 
 cut_more : (line : List ℕ) (rest : List (List ℕ)) (bytes : List ℕ) → Cut rest bytes → Cut (line ∷ rest) (line ++ bytes)
 cut_more line rest bytes c = record {
   first = line ∷ c.first;
+  next = c.next;
   rest = c.rest;
   parts = ap (λ zs. line ∷ zs) c.parts;
   is = ap (λ b. line ++ b) c.is ∙ sym (append_assoc line (joined c.first) memory_line);

@@ -25,11 +25,12 @@ pub data PutMemory (old new : SinkState) (result : Status) : Type 0 where
   said : result ≡ Memory → Took old new memory_line → PutMemory old new result
   unsaid : result ≡ WriteFault true → Broke old new memory_line → PutMemory old new result
 
--- some first lines, and then want of memory
+-- some first lines, and want of memory in place of the next one
 pub record Cut (lines : List (List ℕ)) (bytes : List ℕ) : Type 0 where
   pub first : List (List ℕ)
+  pub next : List ℕ
   pub rest : List (List ℕ)
-  pub parts : lines ≡ first ++ rest
+  pub parts : lines ≡ first ++ (next ∷ rest)
   pub is : bytes ≡ joined first ++ memory_line
 
 -- What comes of the lines of a status: all were put, and it is the answer; or memory ran out in one of them; or the sink failed,

@@ -21,4 +21,5 @@ pub returns-in-Err-put-clause-goes_on : goal.returns-in-Err-put-clause-goes_on
 returns-in-Err-put-clause-goes_on g t c = sink_goes _ _ _ c.put.result c.put.ensures
 
 pub returns-in-Err-clause-put : goal.returns-in-Err-clause-put
-returns-in-Err-clause-put g t c = put_short _ _ _ _ _ c.put_memory.ensures.put
+returns-in-Err-clause-put g t c =
+    put_short _ (text_of c.line-item.result) _ _ _ _ _ (ap (map text_of) (sym (split_first c.args.lines.now c.line-item.result c.in-len1-up.len_at_least c.line-item.is))) c.put_memory.ensures.put
