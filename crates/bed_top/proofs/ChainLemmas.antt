@@ -130,14 +130,14 @@ some_read : (k : ℕ) (texts : List (List ℕ)) → ((ms : List Module) × AreMo
 some_read k [] = inl ([], tt)
 some_read k (t ∷ ts) =
     elim (an_answer t) [
-      inl m ↦ elim (some_read (k + 1) ts) [ inl ms ↦ inl (m.0 ∷ ms.0, (m.1, ms.1)) | inr r ↦ inr (r.0, r.1, r.2, inr (m.0, m.1, r.3)) ]
+      | inl m ↦ elim (some_read (k + 1) ts) [ inl ms ↦ inl (m.0 ∷ ms.0, (m.1, ms.1)) | inr r ↦ inr (r.0, r.1, r.2, inr (m.0, m.1, r.3)) ]
       | inr r ↦ inr (k, t, r.0, inl (refl, refl, r.1, r.2))
     ]
 
 read_some : (v : View) (job : Job) → (r : Refusal ⊎ Source) × IsRead v job r
 read_some v job =
     elim (some_read 0 v.texts) [
-      inl ms ↦ (inr (source job ms.0), all_read ms.0 ms.1 refl)
+      | inl ms ↦ (inr (source job ms.0), all_read ms.0 ms.1 refl)
       | inr r ↦ (inl (unread r.0 (word_at job.modules r.0) r.1 r.2), not_read r.0 r.1 r.2 r.3 refl)
     ]
 
@@ -312,11 +312,11 @@ linkable_passes v job ms asked h =
     let less : nat_lt most_functions (function_count ms) ≡ false = let few = h.few in grind (arith, nat_tests) in
     let done : Source = source job (map resolved ms) in
     goes job (asks_for v.words v.texts job asked) (goes done
-      (goes job (ap (λ b. if b then inl (past_limit which.Text) else inr job) (sym h.fits))
-      (goes (source job ms) (all_read ms h.read refl)
-      (goes (source job ms) (ap (λ b. if b then inl (past_limit which.Functions) else inr (source job ms)) (sym less))
-      (ap (λ o. or_refuse (misnamed_in v job) o done) (sym h.scoped)))))
-      (goes done (ap (λ o. or_refuse not_built o done) (sym h.built)) (ap (λ o. or_refuse broken_promise o done) (sym h.kept))))
+    (goes job (ap (λ b. if b then inl (past_limit which.Text) else inr job) (sym h.fits))
+    (goes (source job ms) (all_read ms h.read refl)
+    (goes (source job ms) (ap (λ b. if b then inl (past_limit which.Functions) else inr (source job ms)) (sym less))
+    (ap (λ o. or_refuse (misnamed_in v job) o done) (sym h.scoped)))))
+    (goes done (ap (λ o. or_refuse not_built o done) (sym h.built)) (ap (λ o. or_refuse broken_promise o done) (sym h.kept))))
 
 -- A refusal of the texts never has the status of wrong words.
 
@@ -467,7 +467,7 @@ pub same_due : (words texts others : List (List ℕ)) (e : End) → ((job : Job)
     → ((job : Job) → Asks words job → list_any is_long others ≡ false → texts ≡ others) → Due (view words texts) e → Due (view words others) e
 same_due words texts others e long short h =
     elim (asks_or_not words) [
-      inl a ↦ link_texts words texts others a.0 e a.1 (long a.0 a.1) (short a.0 a.1) (list_any is_long others) refl h
+      | inl a ↦ link_texts words texts others a.0 e a.1 (long a.0 a.1) (short a.0 a.1) (list_any is_long others) refl h
       | inr none ↦ no_link_due words texts others e none h
     ]
 
@@ -475,7 +475,7 @@ same_due words texts others e long short h =
 pub some_texts : (words : List (List ℕ)) (contents : Job → List (List ℕ)) → (texts : List (List ℕ)) × ((job : Job) → Asks words job → texts ≡ contents job)
 some_texts words contents =
     elim (asks_or_not words) [
-      inl a ↦ (contents a.0, λ job asked. ap contents (one_job words a.0 job a.1 asked))
+      | inl a ↦ (contents a.0, λ job asked. ap contents (one_job words a.0 job a.1 asked))
       | inr none ↦ ([], λ job asked. absurd (none job asked))
     ]
   where

@@ -46,9 +46,9 @@ image_has_code : (ms : List Module) → HasCode (image ms base []) (linked ms ba
 image_has_code ms = (
   codes "BIM1" ++ (word_bytes base ++ (word_bytes (code_length ms) ++ (word_bytes (length (symbols ms base [])) ++ table_bytes (symbols ms base [])))),
   sym (append_assoc (codes "BIM1") (word_bytes base ++ (word_bytes (code_length ms) ++ (word_bytes (length (symbols ms base [])) ++ table_bytes (symbols ms base [])))) (code ms base [])
-    ∙ ap (λ bytes. codes "BIM1" ++ bytes) (append_assoc (word_bytes base) (word_bytes (code_length ms) ++ (word_bytes (length (symbols ms base [])) ++ table_bytes (symbols ms base []))) (code ms base [])
-    ∙ ap (λ bytes. word_bytes base ++ bytes) (append_assoc (word_bytes (code_length ms)) (word_bytes (length (symbols ms base [])) ++ table_bytes (symbols ms base [])) (code ms base [])
-    ∙ ap (λ bytes. word_bytes (code_length ms) ++ bytes) (append_assoc (word_bytes (length (symbols ms base []))) (table_bytes (symbols ms base [])) (code ms base []))))),
+      ∙ ap (λ bytes. codes "BIM1" ++ bytes) (append_assoc (word_bytes base) (word_bytes (code_length ms) ++ (word_bytes (length (symbols ms base [])) ++ table_bytes (symbols ms base []))) (code ms base [])
+      ∙ ap (λ bytes. word_bytes base ++ bytes) (append_assoc (word_bytes (code_length ms)) (word_bytes (length (symbols ms base [])) ++ table_bytes (symbols ms base [])) (code ms base [])
+      ∙ ap (λ bytes. word_bytes (code_length ms) ++ bytes) (append_assoc (word_bytes (length (symbols ms base []))) (table_bytes (symbols ms base [])) (code ms base []))))),
 )
 
 -- what modules that can be linked are: one built module, whose names are as they were read
@@ -116,7 +116,7 @@ links_of words texts s old new told read l written =
 put_done : (lines : List (List ℕ)) (due : Status) (so sn : SinkState) (result : Status) → Put lines due so sn result → result ≡ Done → due ≡ Done
 put_done lines due so sn result p done =
     elim (given lines due so sn result p) [
-      inl g ↦ sym g ∙ done
+      | inl g ↦ sym g ∙ done
       | inr m ↦ elim m [ inl x ↦ absurd (let no : Memory ≡ Done = sym x ∙ done in cc) | inr x ↦ absurd (let no : WriteFault true ≡ Done = sym x.0 ∙ done in cc) ]
     ]
 
@@ -147,15 +147,15 @@ headline words old new so sn result r = headline_of words r.texts r.owed old new
 due_for : (words texts held : List (List ℕ)) (old : FilesState) (e f : End) → IsTrue old.tells → IsDue words texts old e → Hold words old held → Due (view words held) f → e.status ≡ f.status
 due_for words texts held old e f told d holds due =
     let here : Due (view words held) e = same_due words texts held e
-        (λ job asked. as_long job texts old told (d.read job asked) ∙ ap (list_any is_long) (sym (holds job asked)))
-        (λ job asked none. as_held job texts old told (d.read job asked) (ap (list_any is_long) (sym (holds job asked)) ∙ none) ∙ sym (holds job asked)) d.due in
+    (λ job asked. as_long job texts old told (d.read job asked) ∙ ap (list_any is_long) (sym (holds job asked)))
+    (λ job asked none. as_held job texts old told (d.read job asked) (ap (list_any is_long) (sym (holds job asked)) ∙ none) ∙ sym (holds job asked)) d.due in
     ap (λ (x : End). x.status) (due_one (view words held) e f here due)
 
 exact_of : (words texts : List (List ℕ)) (owed : Owed) (old new : FilesState) (so sn : SinkState) (result : Status) → Worked words texts old new owed → Pays owed so sn result
     → IsTrue old.tells → NoFault old new so sn → (e : End) → IsDueFor words old e → (result ≡ e.status) ⊎ (result ≡ Memory)
 exact_of words texts owed old new so sn result (ended e d w is) p told none f (held, holds, due) =
     elim (given e.lines e.status so sn result (subst (λ o. Pays o so sn result) is p)) [
-      inl g ↦ inl (g ∙ due_for words texts held old e f told d holds due)
+      | inl g ↦ inl (g ∙ due_for words texts held old e f told d holds due)
       | inr m ↦ elim m [ inl x ↦ inr x | inr x ↦ absurd (none.puts x.1) ]
     ]
 exact_of words texts owed old new so sn result (unread line u same is) p told none f due = absurd (none.reads u.rose)

@@ -100,4 +100,3 @@ writes_short old new w ws rest called wanted result parts same_name p = record {
   reads_stay = p.reads_stay;
   stays_calm = p.stays_calm;
 }
-

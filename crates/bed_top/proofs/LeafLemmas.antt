@@ -124,7 +124,7 @@ pub read_stop : (job : Job) (words texts : List (List ℕ)) (file : ℕ) (called
     → Gives {X = Vec Module Global} IsRead (as_read job) (view words texts) job (Err s)
 read_stop job words texts file called text e named is h s stop short =
     elim (is_memory e) [
-      inl m ↦ subst (λ x. Gives {X = Vec Module Global} IsRead (as_read job) (view words texts) job (Err x)) (sym (short m)) (record { is = tt })
+      | inl m ↦ subst (λ x. Gives {X = Vec Module Global} IsRead (as_read job) (view words texts) job (Err x)) (sym (short m)) (record { is = tt })
       | inr other ↦ read_refused job words texts file called text e named is (h other) s stop
     ]
 
@@ -138,7 +138,7 @@ pub scoped_stop : (job : Job) (words texts : List (List ℕ)) (ms : List Module)
     → (e ≡ name.Memory → s ≡ Memory) → Gives {X = Vec InScope Global} (By scoped_of) (as_scoped job) (view words texts) (source job ms) (Err s)
 scoped_stop job words texts ms file called text e named is h s stop short =
     elim (is_name_memory e) [
-      inl m ↦ subst (λ x. Gives {X = Vec InScope Global} (By scoped_of) (as_scoped job) (view words texts) (source job ms) (Err x)) (sym (short m)) (record { is = tt })
+      | inl m ↦ subst (λ x. Gives {X = Vec InScope Global} (By scoped_of) (as_scoped job) (view words texts) (source job ms) (Err x)) (sym (short m)) (record { is = tt })
       | inr other ↦ by_stop scoped_of (as_scoped job) (view words texts) (source job ms) (misnamed file called text e) s stop
           (ap (λ o. or_refuse (misnamed_in (view words texts) job) o (source job (map resolved ms))) (h other)
           ∙ ap (λ (n : List ℕ). inl (misnamed file n (word_at texts file) e)) (sym named) ∙ ap (λ (t : List ℕ). inl (misnamed file called t e)) (sym is))

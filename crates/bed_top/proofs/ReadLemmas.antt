@@ -180,4 +180,3 @@ as_many_scoped ms items is = sym (length-map items (λ (s : InScope). s.module))
 pub same_count : (ms : List Module) → function_count (map resolved ms) ≡ function_count ms
 same_count [] = refl
 same_count (m ∷ ms) = omega (arith, same_count ms, length-map m.functions (resolved_function (declarations m)))
-

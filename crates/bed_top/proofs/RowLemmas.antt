@@ -217,17 +217,17 @@ usage_only : (words texts : List (List ℕ)) (owed : Owed) (old new : FilesState
     → Worked words texts old new owed → Pays owed so sn result → IsUsage words word
 usage_only words texts owed old new so sn result word u (ended e d w is) p =
     elim (given e.lines e.status so sn result (subst (λ o. Pays o so sn result) is p)) [
-      inl g ↦ due_usage (view words texts) e word d.due (sym g ∙ u)
+      | inl g ↦ due_usage (view words texts) e word d.due (sym g ∙ u)
       | inr m ↦ elim m [ inl x ↦ absurd (let no : Memory ≡ Usage word = sym x ∙ u in cc) | inr x ↦ absurd (let no : WriteFault true ≡ Usage word = sym x.0 ∙ u in cc) ]
     ]
 usage_only words texts owed old new so sn result word u (unread line k same is) p =
     elim (given _ _ so sn result (subst (λ o. Pays o so sn result) is p)) [
-      inl g ↦ absurd (let no : ReadFault ≡ Usage word = sym g ∙ u in cc)
+      | inl g ↦ absurd (let no : ReadFault ≡ Usage word = sym g ∙ u in cc)
       | inr m ↦ elim m [ inl x ↦ absurd (let no : Memory ≡ Usage word = sym x ∙ u in cc) | inr x ↦ absurd (let no : WriteFault true ≡ Usage word = sym x.0 ∙ u in cc) ]
     ]
 usage_only words texts owed old new so sn result word u (unwritten e d s rose is) p =
     elim (given _ _ so sn result (subst (λ o. Pays o so sn result) is p)) [
-      inl g ↦ absurd (let no : WriteFault false ≡ Usage word = sym g ∙ u in cc)
+      | inl g ↦ absurd (let no : WriteFault false ≡ Usage word = sym g ∙ u in cc)
       | inr m ↦ elim m [ inl x ↦ absurd (let no : Memory ≡ Usage word = sym x ∙ u in cc) | inr x ↦ absurd (let no : WriteFault true ≡ Usage word = sym x.0 ∙ u in cc) ]
     ]
 usage_only words texts owed old new so sn result word u (short same is) p =

@@ -123,12 +123,7 @@ fn placed(
     Ok(text)
 }
 
-fn linked(
-    alloc: Global,
-    modules: u64,
-    functions: u64,
-    bytes: u64,
-) -> Result<Vec<u8>, AllocError>
+fn linked(alloc: Global, modules: u64, functions: u64, bytes: u64) -> Result<Vec<u8>, AllocError>
     ensures { IfOk result (λ line. line.items ≡ linked_line modules functions bytes) }
 {
     Ok(format!(in alloc;

@@ -48,13 +48,7 @@ fn refuse_syntax(
     }
 }
 
-fn refuse_name(
-    alloc: Global,
-    file: u32,
-    called: &[u8],
-    kind: NameKind,
-    place: (u32, u32),
-) -> Stop
+fn refuse_name(alloc: Global, file: u32, called: &[u8], kind: NameKind, place: (u32, u32)) -> Stop
     ensures { IsStop (names_refusal file called.now kind place) result }
 {
     let (line, column) = place;

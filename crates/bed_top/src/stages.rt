@@ -13,9 +13,7 @@ ghost use Rattle.bed_top.specs.Views.{view, source, View};
 ghost use Rattle.bed_top.specs.Work.{built_of, counted_of, judged_of, lengths_of, scoped_of, IsRead};
 
 use crate::line::Line;
-use crate::modules::{
-    have_more_functions, read_modules, refuse_names, refuse_text, scope_modules,
-};
+use crate::modules::{have_more_functions, read_modules, refuse_names, refuse_text, scope_modules};
 use crate::plan::{Stop, refuse_limit, refuse_unbuilt};
 use crate::returns::{broken, is_built};
 use crate::status::Status;
