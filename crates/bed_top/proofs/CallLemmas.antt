@@ -1,27 +1,24 @@
 -- From the parts to the whole run.
-use Rattle.std.proofs.Common.{◌≡◌, ℕ, ◌≤◌, ◌<◌, false, IsTrue, IsSome, All, List, [], ◌∷◌, ◌++◌, length, map, Result, Ok, Err, IfOk, Vec, vec_len, inl, inr, refl, sym, ◌∙◌, ap, subst, IsErrAnd, OnErr, IsErrOf, arith}
+use Rattle.std.proofs.Common.{◌≡◌, ℕ, ◌≤◌, false, IsTrue, IsSome, All, List, [], ◌∷◌, ◌++◌, length, Result, Ok, Err, IfOk, Vec, vec_len, inl, inr, refl, sym, ◌∙◌, ap, subst, IsErrAnd, arith}
 use Rattle.std.proofs.lemmas.List.{length-map}
 use Rattle.std.specs.declared.alloc.Global.{Global}
-use Rattle.bed_io.specs.Counts.{Rose}
 use Rattle.bed_io.specs.Files.{FilesState, GoesOn, SameFiles}
 use Rattle.bed_io.specs.declared.files.FileRefusal.{FileRefusal}
 use Rattle.bed_io.specs.declared.files.FileRefusal.TheVariants as refusal
-use Rattle.bed_words.specs.declared.command.Command.TheVariants as command
 use Rattle.bed_words.specs.declared.command.Job.{Job}
-use Rattle.bed_words.proofs.CommandLaws.{one_command}
 use Rattle.bed_top.specs.Views.{View, view, End, Refusal, refused, Written, Source}
 use Rattle.bed_top.specs.Causes.{word_at, Asks, function_count}
-use Rattle.bed_top.specs.Files.{HasRead, IsAbsent, SameCounts, KeepsCalm}
+use Rattle.bed_top.specs.Files.{HasRead, SameCounts, KeepsCalm}
 use Rattle.bed_top.specs.Lines.{text_of, read_fault_line, linked_line}
-use Rattle.bed_top.specs.Stages.{Stage, Then, Ends, refuses, passes}
+use Rattle.bed_top.specs.Stages.{Ends, refuses, passes}
 use Rattle.bed_top.specs.Gives.{texts_of, Given, Gives, one_line, end_of, written_of, Concluded, Judged, as_one}
 use Rattle.bed_top.specs.Work.{image_write, done_with, link_end}
-use Rattle.bed_top.specs.Chains.{asking, linking, Due}
+use Rattle.bed_top.specs.Chains.{asking, linking}
 use Rattle.bed_top.specs.Writes.{Wrote, Stopped, WriteOutcome, Writes}
-use Rattle.bed_top.specs.Puts.{Owed, owes}
+use Rattle.bed_top.specs.Puts.{Owed}
 use Rattle.bed_top.specs.Outcomes.{AreCut, ReadsTexts, IsLine, line_is, no_line, Acts, acted, failed_at, stopped_at, GivesUp, IsStopped}
 use Rattle.bed_top.specs.Promises.{IsDue, Unread, Worked, ended, unread, unwritten, short, short_of}
-use Rattle.bed_top.proofs.ChainLemmas.{asking_lawful, asks_for}
+use Rattle.bed_top.proofs.ChainLemmas.{asking_lawful, asks_for, no_other}
 use Rattle.bed_top.proofs.FileLemmas.{after_same, goes_through}
 use Rattle.bed_top.proofs.StageLemmas.{apart, ends_after, ends_stopped}
 use Rattle.bed_top.specs.declared.plan.Fault.{Fault}
@@ -84,9 +81,6 @@ acts_worked words texts e old mid new owed due same g (failed_at s rose (line_is
     unwritten e due (stopped_from e.writes old mid new same g.tells s) (let before : old.write_faults ≤ mid.write_faults = g.writes in omega arith) is
 acts_worked words texts e old mid new owed due same g (failed_at s rose (no_line is)) = short_of e due (stopped_from e.writes old mid new same g.tells s) is
 acts_worked words texts e old mid new owed due same g (stopped_at s is) = short_of e due (stopped_from e.writes old mid new same g.tells s) is
-
-pub no_other : (words : List (List ℕ)) (job other : Job) → Asks words job → Asks words other → job ≡ other
-no_other words job other a b = let same : command.Link job ≡ command.Link other = one_command words (command.Link job) (command.Link other) a.stands b.stands in cc
 
 -- what was judged of the texts of a link is due by the words
 due_of : (words texts : List (List ℕ)) (job : Job) (old : FilesState) (e : End) → Asks words job → HasRead job texts old → Ends linking job link_end (view words texts) e
@@ -182,9 +176,6 @@ refused_asks words see s line h job asked =
     stage_apart : (words : List (List ℕ)) (x : Refusal) (job : Job) → asking (view words []) tt (inl x) → asking (view words []) tt (inr job) → ⊥
     stage_apart words x job a b = apart x job (asking_lawful.one (view words []) tt (inl x) (inr job) a b)
 
-unchanged : (files : FilesState) → GoesOn files files
-unchanged files = record { tells = refl; calm = refl; reads = omega arith; writes = omega arith }
-
 pub nothing_worked : {X : Type 0} (words : List (List ℕ)) (see : X → Job) (e : Stop) (files : FilesState) (owed : Owed)
     → ((texts : List (List ℕ)) → Gives {X = X} asking see (view words texts) tt (Err e)) → IsStopped e owed → Worked words [] files files owed
 nothing_worked words see (Refused s line) files owed h l =
@@ -196,7 +187,7 @@ nothing_worked words see (Refused s line) files owed h l =
 nothing_worked words see Memory files owed h l = short (λ told name. refl) l
 
 pub nothing_goes : (files : FilesState) → GoesOn files files
-nothing_goes = unchanged
+nothing_goes files = record { tells = refl; calm = refl; reads = omega arith; writes = omega arith }
 
 pub nothing_calm : (words : List (List ℕ)) (files : FilesState) → KeepsCalm words files files
 nothing_calm words files = record { link = λ calm job asked all. record { reads = refl; writes = refl }; untouched = λ none. refl }

@@ -1,12 +1,11 @@
 -- The stages and the chains are lawful, and what is read off a passed one.
-use Rattle.std.proofs.Common.{◌≡◌, ◌≢◌, ◌⊎◌, inl, inr, ℕ, ◌+◌, ◌≤◌, ◌<◌, IsTrue, Bool, true, false, nat_lt, List, [], ◌∷◌, map, Option, Some, None, Result, Ok, Err, refl, sym, ◌∙◌, ap, subst, arith, if◌then◌else◌}
+use Rattle.std.proofs.Common.{◌≡◌, ◌⊎◌, inl, inr, ℕ, ◌+◌, IsTrue, Bool, true, false, nat_lt, List, [], ◌∷◌, map, Option, Some, None, Result, Ok, Err, refl, sym, ◌∙◌, ap, subst, arith, if◌then◌else◌}
 use Rattle.std.specs.List.{list_any}
 use Rattle.std.proofs.lemmas.Bool.Decides.{nat_tests}
 use Rattle.bed_lang.specs.declared.limit.Which.{Which}
 use Rattle.bed_lang.specs.declared.limit.Which.TheVariants as which
 use Rattle.bed_lang.specs.declared.module.Module.{Module}
 use Rattle.bed_names.specs.Resolved.{resolved}
-use Rattle.bed_names.specs.declared.error.NameError.{NameError}
 use Rattle.bed_read.specs.declared.whole.ReadError.{ReadError}
 use Rattle.bed_read.specs.declared.whole.ReadError.TheVariants as read
 use Rattle.bed_read.proofs.TextLaws.{an_answer}
@@ -20,10 +19,9 @@ use Rattle.bed_words.specs.Limits.{limit_of}
 use Rattle.bed_words.specs.Usage.{Answers, IsUsage, PassesLimit}
 use Rattle.bed_words.proofs.CommandLaws.{one_answer, one_command, has_answer}
 use Rattle.bed_top.specs.Views.{View, view, End, Refusal, refusal_of, refused, Source, source}
-use Rattle.bed_top.specs.Stages.{Stage, By, Then, stops, goes, Ends, refuses, passes, Lawful, is_refusal}
+use Rattle.bed_top.specs.Stages.{Stage, By, Then, stops, goes, refuses, passes, Lawful, is_refusal}
 use Rattle.bed_top.specs.Causes.{is_long, most_functions, word_at, unbuilt_word, Asks, AreModules, FirstRefused, function_count, first_misnamed, unbuilt_file, broken_of}
 use Rattle.bed_top.specs.Lines.{memory_line}
-use Rattle.bed_top.specs.Places.{place_of}
 use Rattle.bed_top.specs.Work.{wrong_word, past_limit, not_built, broken_promise, unread, rule_of, misnamed_by, misnamed_in, or_refuse, IsCommanded, no_command, passes_limit, is_command, IsAsked, unbuilt, asks, lengths_of, IsRead, not_read, all_read, counted_of, scoped_of, built_of, judged_of, link_end}
 use Rattle.bed_top.specs.Chains.{asking, front, linking, Due}
 use Rattle.bed_top.specs.Promises.{IsLinkable}
@@ -471,13 +469,13 @@ same_due words texts others e long short h =
       | inr none ↦ no_link_due words texts others e none h
     ]
 
+pub no_other : (words : List (List ℕ)) (job other : Job) → Asks words job → Asks words other → job ≡ other
+no_other words job other a b = same_link job other (one_command words (command.Link job) (command.Link other) a.stands b.stands)
+
 -- texts that the words ask for
 pub some_texts : (words : List (List ℕ)) (contents : Job → List (List ℕ)) → (texts : List (List ℕ)) × ((job : Job) → Asks words job → texts ≡ contents job)
 some_texts words contents =
     elim (asks_or_not words) [
-      | inl a ↦ (contents a.0, λ job asked. ap contents (one_job words a.0 job a.1 asked))
+      | inl a ↦ (contents a.0, λ job asked. ap contents (no_other words a.0 job a.1 asked))
       | inr none ↦ ([], λ job asked. absurd (none job asked))
     ]
-  where
-    one_job : (words : List (List ℕ)) (job other : Job) → Asks words job → Asks words other → job ≡ other
-    one_job words job other a b = same_link job other (one_command words (command.Link job) (command.Link other) a.stands b.stands)

@@ -1,5 +1,5 @@
 -- What a link that is done promises, which answer is due, and when a link is done.
-use Rattle.std.proofs.Common.{◌≡◌, ◌⊎◌, inl, inr, ℕ, ◌≤◌, ◌<◌, Bool, true, false, IsTrue, bytes_eq, List, [], ◌∷◌, ◌++◌, append_assoc, length, map, codes, Option, Some, None, refl, sym, ◌∙◌, ap, subst, arith, if◌then◌else◌}
+use Rattle.std.proofs.Common.{◌≡◌, ◌⊎◌, inl, inr, ℕ, ◌≤◌, Bool, true, false, IsTrue, bytes_eq, List, [], ◌∷◌, ◌++◌, append_assoc, length, map, codes, Some, None, refl, sym, ◌∙◌, ap, subst, arith, if◌then◌else◌}
 use Rattle.std.specs.List.{list_any}
 use Rattle.std.proofs.lemmas.Slice.Eq.{bytes_eq-Decides}
 use Rattle.bed_io.specs.Files.{FilesState, bytes_of, up_to}
@@ -13,16 +13,16 @@ use Rattle.bed_sat.specs.Linking.{linked}
 use Rattle.bed_sat.specs.Runs.{Outside}
 use Rattle.bed_sat.specs.Sound.{IsOutsideOf, IsSound}
 use Rattle.bed_words.specs.declared.command.Job.{Job}
-use Rattle.bed_top.specs.Views.{View, view, End, Written, Source, source}
-use Rattle.bed_top.specs.Stages.{Then, Ends, passes, is_refusal}
-use Rattle.bed_top.specs.Causes.{most_text, is_long, word_at, Asks, AreModules, function_count, first_misnamed, unbuilt_file, broken_of}
+use Rattle.bed_top.specs.Views.{view, End, Written, Source, source}
+use Rattle.bed_top.specs.Stages.{passes, is_refusal}
+use Rattle.bed_top.specs.Causes.{most_text, is_long, word_at, AreModules}
 use Rattle.bed_top.specs.Files.{out_file, HasRead}
 use Rattle.bed_top.specs.Returns.{module_is_built, broken_condition}
 use Rattle.bed_top.specs.Work.{base, link_end}
-use Rattle.bed_top.specs.Chains.{asking, linking, Due}
+use Rattle.bed_top.specs.Chains.{Due}
 use Rattle.bed_top.specs.Writes.{Wrote}
 use Rattle.bed_top.specs.Puts.{PutMemory, Put, Owed, Pays}
-use Rattle.bed_top.specs.Promises.{contents, HasCode, Links, Headline, NoFault, Hold, IsDueFor, Exactly, IsLinkable, Complete, IsDue, Unread, Worked, ended, unread, unwritten, short, short_of, Ran}
+use Rattle.bed_top.specs.Promises.{contents, HasCode, Links, Headline, NoFault, Hold, IsDueFor, Exactly, IsLinkable, Complete, IsDue, Worked, ended, unread, unwritten, short, short_of, Ran}
 use Rattle.bed_top.proofs.ChainLemmas.{due_one, due_some, same_due, some_texts, Kind, refusing, linking_to, due_kind, IsLinked, linkable_passes}
 use Rattle.bed_top.proofs.RowLemmas.{given, given_memory}
 use Rattle.bed_top.proofs.TextLemmas.{cut_texts, whole_texts, cut_contents}

@@ -1,5 +1,5 @@
 -- Writes, one more at the front.
-use Rattle.std.proofs.Common.{◌≡◌, ◌≢◌, ℕ, ◌≤◌, Bool, true, false, IsTrue, bytes_eq, List, [], ◌∷◌, ◌++◌, Option, Some, Result, Ok, Err, OnOk, IsErrOf, refl, sym, ◌∙◌, ap, subst, arith, cond}
+use Rattle.std.proofs.Common.{◌≡◌, ◌≢◌, ℕ, ◌≤◌, Bool, true, false, IsTrue, bytes_eq, List, [], ◌∷◌, Option, Some, Result, Ok, Err, OnOk, IsErrOf, refl, sym, ◌∙◌, ap, subst, arith, cond}
 use Rattle.std.proofs.lemmas.Slice.Eq.{bytes_eq-Decides}
 use Rattle.bed_io.specs.Counts.{Rose}
 use Rattle.bed_io.specs.Files.{FilesState, GoesOn, Puts}

@@ -1,5 +1,5 @@
 -- The image of modules with their names resolved: code is made of skeletons, and resolving names keeps these.
-use Rattle.std.proofs.Common.{◌≡◌, ◌∙◌, refl, sym, ap, ℕ, List, [], ◌∷◌, map}
+use Rattle.std.proofs.Common.{◌≡◌, ◌∙◌, refl, sym, ap, List, [], ◌∷◌, map}
 use Rattle.bed_lang.specs.declared.module.Module.{Module}
 use Rattle.bed_lang.specs.Skeletons.{skeleton}
 use Rattle.bed_names.specs.Resolved.{resolved}

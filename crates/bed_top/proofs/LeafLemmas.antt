@@ -1,5 +1,5 @@
 -- From what the parts of a stage give to an outcome of it.
-use Rattle.std.proofs.Common.{◌≡◌, ◌≢◌, ◌⊎◌, inl, inr, ℕ, ◌+◌, ◌-◌, ◌≤◌, ◌<◌, zero, suc, Bool, true, false, nat_lt, List, [], ◌∷◌, length, take, drop, map, get_or, Option, Some, None, Result, Ok, Err, IfOk, IfErr, Vec, refl, sym, ◌∙◌, ap, subst, arith, if◌then◌else◌}
+use Rattle.std.proofs.Common.{◌≡◌, ◌≢◌, ◌⊎◌, inl, inr, ℕ, ◌+◌, ◌-◌, ◌≤◌, ◌<◌, suc, Bool, true, false, nat_lt, List, [], ◌∷◌, length, take, drop, map, get_or, Some, None, Result, Ok, Err, IfOk, IfErr, Vec, refl, sym, ◌∙◌, ap, subst, arith, if◌then◌else◌}
 use Rattle.std.specs.declared.alloc.Global.{Global}
 use Rattle.std.specs.List.{list_any}
 use Rattle.bed_lang.specs.declared.limit.Which.{Which}
@@ -20,12 +20,12 @@ use Rattle.bed_words.specs.declared.command.Job.{Job}
 use Rattle.bed_words.specs.Commands.{IsCommand}
 use Rattle.bed_words.specs.Limits.{limit_of}
 use Rattle.bed_words.specs.Usage.{IsUsage, PassesLimit}
-use Rattle.bed_top.specs.Views.{View, view, Refusal, Source, source}
-use Rattle.bed_top.specs.Stages.{Stage, By}
+use Rattle.bed_top.specs.Views.{View, view, Refusal, source}
+use Rattle.bed_top.specs.Stages.{By}
 use Rattle.bed_top.specs.Causes.{word_at, unbuilt_word, Asks, unbuilt_file, AreModules, FirstRefused, function_count, first_misnamed, is_long, most_functions}
 use Rattle.bed_top.specs.Returns.{module_is_built, broken_condition}
 use Rattle.bed_top.specs.Work.{past_limit, not_built, unread, misnamed, misnamed_in, broken_promise, or_refuse, IsCommanded, no_command, passes_limit, is_command, IsAsked, unbuilt, asks, IsRead, not_read, all_read, lengths_of, counted_of, scoped_of, built_of, judged_of}
-use Rattle.bed_top.specs.Gives.{texts_of, modules_of, one_line, stop_of, IsStop, Given, Gives, as_one, as_read, as_scoped}
+use Rattle.bed_top.specs.Gives.{texts_of, modules_of, stop_of, IsStop, Gives, as_one, as_read, as_scoped}
 use Rattle.bed_top.specs.Outcomes.{IsRefusedFrom, holds_long}
 use Rattle.bed_top.proofs.ReadLemmas.{split_first, only_of, as_many_scoped, same_count}
 use Rattle.bed_top.specs.declared.line.Line.TheVariants as line

@@ -1,5 +1,5 @@
 -- The rows that are read off a run: faults come only where their count rose, which files are left, and the answers to words.
-use Rattle.std.proofs.Common.{◌≡◌, ◌≢◌, ◌⊎◌, inl, inr, ℕ, Bool, true, false, IsTrue, bytes_eq, List, [], ◌∷◌, ◌++◌, Option, Some, Result, Ok, Err, refl, sym, ◌∙◌, ap, subst, if◌then◌else◌}
+use Rattle.std.proofs.Common.{◌≡◌, ◌≢◌, ◌⊎◌, inl, inr, ℕ, Bool, true, false, bytes_eq, List, [], ◌∷◌, ◌++◌, Option, Some, Result, Ok, Err, refl, sym, ◌∙◌, ap, subst, if◌then◌else◌}
 use Rattle.std.proofs.lemmas.Slice.Eq.{bytes_eq-Decides}
 use Rattle.bed_io.specs.Counts.{Rose}
 use Rattle.bed_io.specs.Files.{FilesState, SameFiles, SameFilesBut}
@@ -12,17 +12,16 @@ use Rattle.bed_words.specs.declared.command.CommandError.TheVariants as wrong
 use Rattle.bed_words.specs.declared.command.Job.{Job}
 use Rattle.bed_words.specs.Usage.{IsUsage, PassesLimit}
 use Rattle.bed_words.proofs.CommandLaws.{one_answer}
-use Rattle.bed_top.specs.Views.{View, view, End, Refusal, refused, Written, Source}
+use Rattle.bed_top.specs.Views.{View, view, End, Refusal, refused, Written}
 use Rattle.bed_top.specs.Stages.{is_refusal}
 use Rattle.bed_top.specs.Causes.{Asks}
 use Rattle.bed_top.specs.Files.{out_file, keeps_files, Leaves, LeavesBut}
-use Rattle.bed_top.specs.Work.{wrong_word, past_limit, link_end}
+use Rattle.bed_top.specs.Work.{wrong_word, past_limit}
 use Rattle.bed_top.specs.Chains.{Due}
-use Rattle.bed_top.specs.Writes.{after, held_after, Wrote, Stopped}
+use Rattle.bed_top.specs.Writes.{held_after, Wrote, Stopped}
 use Rattle.bed_top.specs.Puts.{PutMemory, said, unsaid, Put, all, short as cut, failed, Owed, Pays}
-use Rattle.bed_top.specs.Promises.{IsDue, Unread, Worked, ended, unread, unwritten, short, short_of, Ran, Faults, Yields, Words}
-use Rattle.bed_top.proofs.ChainLemmas.{due_one, due_usage, usage_due, limit_due, Kind, refusing, linking_to, due_kind, IsLinked}
-use Rattle.bed_top.proofs.CallLemmas.{no_other}
+use Rattle.bed_top.specs.Promises.{Worked, ended, unread, unwritten, short, short_of, Ran, Faults, Yields, Words}
+use Rattle.bed_top.proofs.ChainLemmas.{due_one, due_usage, usage_due, limit_due, Kind, refusing, linking_to, due_kind, no_other}
 use Rattle.bed_top.specs.declared.status.Status.{Status}
 use Rattle.bed_top.specs.declared.status.Status.TheVariants.{Done, No, Usage, Syntax, Names, Limit, ReadFault, WriteFault, Memory, NotBuilt}
 

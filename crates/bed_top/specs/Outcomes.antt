@@ -1,12 +1,10 @@
 -- What the parts of the call give.
-use Rattle.std.specs.Prelude.{◌≡◌, ℕ, ◌+◌, ◌≤◌, ◌<◌, IsTrue, IsSome, All, Bool, false, List, [], ◌∷◌, length, map, Option, Some, Result, Ok, Err, OnOk, OnErr, IsErrOf, Vec}
+use Rattle.std.specs.Prelude.{◌≡◌, ℕ, ◌+◌, ◌≤◌, ◌<◌, IsTrue, IsSome, All, Bool, false, List, [], ◌∷◌, length, map, Result, OnOk, OnErr, IsErrOf, Vec}
 use Rattle.std.specs.declared.alloc.Global.{Global}
 use Rattle.bed_io.specs.Counts.{Rose}
 use Rattle.bed_io.specs.Files.{FilesState, GoesOn, SameFiles, bytes_of, up_to}
 use Rattle.bed_io.specs.declared.files.FileRefusal.{FileRefusal}
 use Rattle.bed_io.specs.declared.files.FileRefusal.TheVariants.{Failed}
-use Rattle.bed_names.specs.declared.error.NameError.{NameError}
-use Rattle.bed_names.specs.declared.error.NameError.TheVariants as name
 use Rattle.bed_read.specs.declared.whole.ReadError.{ReadError}
 use Rattle.bed_read.specs.declared.whole.ReadError.TheVariants as read
 use Rattle.bed_top.specs.Causes.{most_text, is_long, word_at, FirstRefused}

@@ -27,7 +27,6 @@ use Rattle.bed_top.specs.declared.status.SyntaxKind.{SyntaxKind}
 use Rattle.bed_top.specs.declared.status.SyntaxKind.TheVariants as syntax
 use Rattle.bed_top.specs.declared.status.NameKind.{NameKind}
 use Rattle.bed_top.specs.declared.status.NameKind.TheVariants as rule
-use Rattle.bed_top.specs.declared.status.Status.{Status}
 use Rattle.bed_top.specs.declared.status.Status.TheVariants.{Done, No, Usage, Syntax, Names, Limit, Memory, NotBuilt}
 
 -- the address of an image's first byte

@@ -22,5 +22,5 @@ pub returns-in-Err-Failed-clause-worked : goal.returns-in-Err-Failed-clause-work
 returns-in-Err-Failed-clause-worked g c = λ words asked.
     let read = read_whole c.args.job.now c.as_slice.result.now c.args.texts.now.items c.read_texts.new.texts.items _ _ c.read_texts.result c.requires.none c.as_slice.ensures c.read_texts.ensures in
     worked_unread c.args.job.now words (texts_of c.read_texts.new.texts.items) _ _ _ _ asked
-    (subst (λ r. ReadsTexts _ _ c.args.job.now.modules (texts_of c.read_texts.new.texts.items) r) (c.in-Err-Failed.is ∙ ap Err c.in-Err-Failed.field-0-is) read.1)
+    (subst (λ r. ReadsTexts (g.F.Files.seen c.args.files.now) (g.F.Files.seen c.read_texts.new.files) c.args.job.now.modules (texts_of c.read_texts.new.texts.items) r) (c.in-Err-Failed.is ∙ ap Err c.in-Err-Failed.field-0-is) read.1)
     (c.file_name.ensures ∙ ap (word_at c.args.job.now.modules) (c.len.ensures ∙ sym (texts_counted c.read_texts.new.texts))) c.unread.ensures

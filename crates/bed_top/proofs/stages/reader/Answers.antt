@@ -1,4 +1,4 @@
-use Rattle.std.proofs.Common.{◌≡◌, ℕ, ◌≤◌, ◌+◌, List, length, sym, subst, arith}
+use Rattle.std.proofs.Common.{ℕ, ◌≤◌, ◌+◌, List, length, sym, subst, arith}
 use Rattle.bed_top.specs.Causes.{most_text}
 use Rattle.bed_top.specs.Gives.{texts_of}
 use Rattle.bed_top.proofs.LeafLemmas.{read_pass, read_stop}
