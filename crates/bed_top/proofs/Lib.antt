@@ -1,8 +1,13 @@
-pub mod ClauseLaws
-pub mod DueLaws
-mod ImageLaws
-pub mod ReportLaws
-pub mod ReturnLaws
-pub mod StageLaws
-pub mod TextLaws
-pub mod TreeLaws
+mod CallLemmas
+mod ChainLemmas
+mod ClauseLemmas
+mod FileLemmas
+mod ImageLemmas
+mod LeafLemmas
+mod ReadLemmas
+mod ReportLemmas
+mod ReturnLemmas
+mod RowLemmas
+mod StageLemmas
+mod TextLemmas
+mod TreeLemmas

@@ -1,10 +1,10 @@
 -- What a link does to the files.
-use Rattle.std.specs.Prelude.{◌≡◌, ℕ, ◌-◌, ◌^◌, ◌<◌, IsTrue, IsSome, None, List, [], length, map, All, unwrap_or}
+use Rattle.std.specs.Prelude.{◌≡◌, ℕ, ◌-◌, ◌^◌, ◌<◌, ◌≤◌, Bool, true, false, IsTrue, IsSome, None, List, [], length, map, All, unwrap_or}
 use Rattle.bed_io.specs.Files.{FilesState, SameFiles, SameFilesBut, bytes_of, up_to}
 use Rattle.bed_words.specs.declared.command.Job.{Job}
 use Rattle.bed_top.specs.Causes.{most_text, Asks}
 use Rattle.bed_top.specs.declared.status.Status.{Status}
-use Rattle.bed_top.specs.declared.status.Status.TheVariants.{Done, No, Usage, Syntax, Names, Limit, ReadFault, WriteFault, Memory, NotBuilt}
+use Rattle.bed_top.specs.declared.status.Status.TheVariants.{Done, WriteFault, Memory}
 
 -- the file that the image goes to
 abbrev pub out_file : Job → List ℕ
@@ -14,6 +14,7 @@ out_file job = unwrap_or job.out []
 -- too long for a text
 pub record HasRead (job : Job) (texts : List (List ℕ)) (old : FilesState) : Type 0 where
   pub each : length texts ≡ length job.modules
+  pub some : 1 ≤ length texts
   pub told : IsTrue old.tells → texts ≡ map (λ file. up_to most_text (bytes_of old file)) job.modules
 
 -- of calm files, one whose read fails is absent, unless the count of such faults stands at its end
@@ -25,31 +26,17 @@ pub record LeavesBut (words : List (List ℕ)) (old new : FilesState) : Type 0 w
   pub others : (job : Job) → Asks words job → SameFilesBut (out_file job) old new
   pub refused : ((job : Job) → Asks words job → ⊥) → SameFiles old new
 
--- the files that a status leaves: all as before, or all but the image's
-abbrev pub Leaves : List (List ℕ) → FilesState → FilesState → Status → Type 0
-Leaves words old new (WriteFault sink) = LeavesBut words old new
-Leaves words old new Memory = LeavesBut words old new
-Leaves words old new Done = LeavesBut words old new
-Leaves words old new (No condition rejected) = SameFiles old new
-Leaves words old new (Usage word) = SameFiles old new
-Leaves words old new (Syntax file line column kind) = SameFiles old new
-Leaves words old new (Names file line column kind) = SameFiles old new
-Leaves words old new (Limit which) = SameFiles old new
-Leaves words old new ReadFault = SameFiles old new
-Leaves words old new (NotBuilt what) = SameFiles old new
+-- the statuses of the call that leave every file: all but those of a write
+abbrev pub keeps_files : Status → Bool
+keeps_files Done = false
+keeps_files (WriteFault sink) = false
+keeps_files Memory = false
+keeps_files _ = true
 
--- the same, after words that ask for this link
-abbrev pub JobLeaves : Job → FilesState → FilesState → Status → Type 0
-JobLeaves job old new (WriteFault sink) = SameFilesBut (out_file job) old new
-JobLeaves job old new Memory = SameFilesBut (out_file job) old new
-JobLeaves job old new Done = SameFilesBut (out_file job) old new
-JobLeaves job old new (No condition rejected) = SameFiles old new
-JobLeaves job old new (Usage word) = SameFiles old new
-JobLeaves job old new (Syntax file line column kind) = SameFiles old new
-JobLeaves job old new (Names file line column kind) = SameFiles old new
-JobLeaves job old new (Limit which) = SameFiles old new
-JobLeaves job old new ReadFault = SameFiles old new
-JobLeaves job old new (NotBuilt what) = SameFiles old new
+-- a refusal, and a fault in a read, leave every file as before; no status changes another file than the image's
+pub record Leaves (words : List (List ℕ)) (old new : FilesState) (result : Status) : Type 0 where
+  pub same : keeps_files result ≡ true → SameFiles old new
+  pub but : LeavesBut words old new
 
 -- no count of faults changed
 pub record SameCounts (old new : FilesState) : Type 0 where

@@ -2,9 +2,15 @@ pub mod Codes
 pub mod Places
 pub mod Returns
 pub mod Causes
+pub mod Views
+pub mod Stages
+pub mod Lines
 pub mod Files
 pub mod Work
-pub mod Lines
+pub mod Chains
+pub mod Gives
+pub mod Writes
+pub mod Puts
 pub mod Outcomes
 pub mod Promises
 pub mod Laws

@@ -1,29 +1,18 @@
 -- The printed lines.
-use Rattle.std.specs.Prelude.{◌≡◌, ℕ, ◌≤◌, IsTrue, true, false, List, [], ◌++◌, length, take, codes}
+use Rattle.std.specs.Prelude.{ℕ, List, ◌++◌, codes}
 use Rattle.std.specs.Fmt.{decimal}
 use Rattle.bed_lang.specs.declared.limit.Which.{Which}
 use Rattle.bed_lang.specs.declared.limit.Which.TheVariants as which
-use Rattle.bed_lang.specs.declared.module.Module.{Module}
-use Rattle.bed_table.specs.Layout.{code_length}
-use Rattle.bed_io.specs.Counts.{Rose}
-use Rattle.bed_io.specs.Sink.{SinkState}
-use Rattle.bed_words.specs.declared.command.Job.{Job}
-use Rattle.bed_top.specs.Causes.{word_at, AreModules, function_count}
-use Rattle.bed_top.specs.Files.{out_file}
+use Rattle.bed_top.specs.declared.line.Line.{Line}
+use Rattle.bed_top.specs.declared.line.Line.TheVariants as line
 use Rattle.bed_top.specs.declared.status.SyntaxKind.{SyntaxKind}
 use Rattle.bed_top.specs.declared.status.SyntaxKind.TheVariants as syntax
 use Rattle.bed_top.specs.declared.status.NameKind.{NameKind}
 use Rattle.bed_top.specs.declared.status.NameKind.TheVariants as rule
-use Rattle.bed_top.specs.declared.status.Status.{Status}
-use Rattle.bed_top.specs.declared.status.Status.TheVariants.{Done, No, Usage, Syntax, Names, Limit, ReadFault, WriteFault, Memory, NotBuilt}
 
 -- a label, a text and the end of the line
 abbrev pub labelled : List ℕ → List ℕ → List ℕ
 labelled label text = label ++ (text ++ codes "\n")
-
--- the name of a module file of the command, by its number from 0
-abbrev pub file_at : Job → ℕ → List ℕ
-file_at job i = word_at job.modules i
 
 -- the counted quantity and its limit
 abbrev pub limit_text : Which → List ℕ
@@ -70,52 +59,41 @@ linked_line modules functions bytes =
     codes "linked " ++ (decimal modules ++ (codes " modules, " ++ (decimal functions ++ (codes " functions, " ++ (decimal functions
     ++ (codes " conditions, " ++ (decimal bytes ++ codes " bytes\n")))))))
 
+abbrev pub usage_line : ℕ → List ℕ
+usage_line word = labelled (codes "usage: word ") (decimal word)
+
+abbrev pub syntax_line : List ℕ → ℕ → ℕ → SyntaxKind → List ℕ
+syntax_line file at column kind = labelled (codes "syntax: ") (place_text file at column (syntax_text kind))
+
+abbrev pub names_line : List ℕ → ℕ → ℕ → NameKind → List ℕ
+names_line file at column kind = labelled (codes "names: ") (place_text file at column (rule_text kind))
+
+abbrev pub limit_line : Which → List ℕ
+limit_line which = labelled (codes "limit: ") (limit_text which)
+
+abbrev pub condition_line : ℕ → List ℕ
+condition_line k = labelled (codes "no: condition ") (decimal k)
+
+abbrev pub not_built_line : List ℕ → List ℕ
+not_built_line what = labelled (codes "not built: ") what
+
+abbrev pub read_fault_line : List ℕ → List ℕ
+read_fault_line file = labelled (codes "read fault: ") file
+
+abbrev pub write_fault_line : List ℕ → List ℕ
+write_fault_line file = labelled (codes "write fault: ") file
+
 abbrev pub memory_line : List ℕ
 memory_line = codes "want of memory\n"
 
--- the line of a status, after these texts were read; a fault of the sink has none
-abbrev pub IsLine : Job → List (List ℕ) → Status → List ℕ → Type 0
-IsLine job texts (Usage word) line = line ≡ labelled (codes "usage: word ") (decimal word)
-IsLine job texts (Syntax file at column kind) line =
-    line ≡ labelled (codes "syntax: ") (place_text (file_at job file) at column (syntax_text kind))
-IsLine job texts (Names file at column kind) line =
-    line ≡ labelled (codes "names: ") (place_text (file_at job file) at column (rule_text kind))
-IsLine job texts (Limit which) line = line ≡ labelled (codes "limit: ") (limit_text which)
-IsLine job texts ReadFault line = line ≡ labelled (codes "read fault: ") (file_at job (length texts))
-IsLine job texts (NotBuilt what) line = line ≡ labelled (codes "not built: ") what
-IsLine job texts (No condition rejected) line = line ≡ labelled (codes "no: condition ") (decimal condition)
-IsLine job texts (WriteFault false) line = line ≡ labelled (codes "write fault: ") (out_file job)
-IsLine job texts (WriteFault true) line = line ≡ []
-IsLine job texts Memory line = line ≡ memory_line
-IsLine job texts Done line =
-    (ms : List Module) × AreModules texts ms × (line ≡ linked_line (length ms) (function_count ms) (code_length ms))
-
--- what was put, where the sink tells it
-abbrev pub Puts : SinkState → SinkState → List ℕ → Type 0
-Puts old new bytes = IsTrue old.tells → new.taken ≡ old.taken ++ bytes
-
--- the line of a status was put, once
-pub record PutsLine (job : Job) (texts : List (List ℕ)) (old new : SinkState) (status : Status) : Type 0 where
-  pub line : List ℕ
-  pub is : IsLine job texts status line
-  pub put : Puts old new line
-
--- the sink failed in the put of a status's line: its count rose, and the first bytes of the line may have been put
-pub record Fails (job : Job) (texts : List (List ℕ)) (old new : SinkState) (status : Status) : Type 0 where
-  pub line : List ℕ
-  pub is : IsLine job texts status line
-  pub put : IsTrue old.tells → (count : ℕ) × (new.taken ≡ old.taken ++ take count line)
-  pub rose : Rose old.faults new.faults
-
--- What comes of the due status: it is the answer, and its line was put; or memory ran out, and that line was put; or the sink
--- failed in one of the two.
-pub data Reports (job : Job) (texts : List (List ℕ)) (old new : SinkState) (due : Status) : Status → Type 0 where
-  given : PutsLine job texts old new due → Reports job texts old new due due
-  short : PutsLine job texts old new Memory → Reports job texts old new due Memory
-  failed : Fails job texts old new due → Reports job texts old new due (WriteFault true)
-  both : Fails job texts old new Memory → Reports job texts old new due (WriteFault true)
-
--- no put makes a sink tell other bytes, and its count never falls
-pub record SinkGoesOn (old new : SinkState) : Type 0 where
-  pub tells : new.tells ≡ old.tells
-  pub later : old.faults ≤ new.faults
+-- the bytes of a line
+abbrev pub text_of : Line → List ℕ
+text_of (line.Usage word) = usage_line word
+text_of (line.Syntax file at column kind) = syntax_line file at column kind
+text_of (line.Names file at column kind) = names_line file at column kind
+text_of (line.Limit which) = limit_line which
+text_of (line.Condition number) = condition_line number
+text_of (line.NotBuilt what) = not_built_line what
+text_of (line.ReadFault file) = read_fault_line file
+text_of (line.WriteFault file) = write_fault_line file
+text_of (line.Linked modules functions bytes) = linked_line modules functions bytes

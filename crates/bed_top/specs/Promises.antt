@@ -1,10 +1,11 @@
 -- What the top call promises: the whole of a run, and what is read off it.
-use Rattle.std.specs.Prelude.{◌≡◌, ◌⊎◌, ℕ, true, false, IsTrue, List, [], map, ◌++◌, None, Some}
+use Rattle.std.specs.Prelude.{◌≡◌, ◌⊎◌, ℕ, ◌≤◌, ◌<◌, true, false, IsTrue, List, [], ◌∷◌, ◌++◌, length, map, None, Some}
+use Rattle.std.specs.List.{list_any}
 use Rattle.bed_lang.specs.declared.limit.Which.{Which}
 use Rattle.bed_lang.specs.declared.module.Module.{Module}
 use Rattle.bed_table.specs.Image.{image}
 use Rattle.bed_io.specs.Counts.{Rose}
-use Rattle.bed_io.specs.Files.{FilesState, bytes_of}
+use Rattle.bed_io.specs.Files.{FilesState, GoesOn, SameFiles, bytes_of}
 use Rattle.bed_io.specs.Sink.{SinkState}
 use Rattle.bed_names.specs.Resolved.{resolved}
 use Rattle.bed_sat.specs.Linking.{linked}
@@ -12,21 +13,50 @@ use Rattle.bed_sat.specs.Runs.{Outside}
 use Rattle.bed_sat.specs.Sound.{IsOutsideOf, IsSound, Linked}
 use Rattle.bed_words.specs.declared.command.Job.{Job}
 use Rattle.bed_words.specs.Usage.{IsUsage, PassesLimit}
-use Rattle.bed_top.specs.Causes.{Asks, AreModules, Due, first_misnamed}
-use Rattle.bed_top.specs.Files.{out_file}
-use Rattle.bed_top.specs.Lines.{Reports, SinkGoesOn}
-use Rattle.bed_top.specs.Work.{base, Worked}
+use Rattle.bed_top.specs.Views.{view, End}
+use Rattle.bed_top.specs.Causes.{is_long, most_functions, word_at, Asks, AreModules, function_count, first_misnamed, unbuilt_file, broken_of}
+use Rattle.bed_top.specs.Files.{out_file, HasRead, IsAbsent, KeepsCalm}
+use Rattle.bed_top.specs.Lines.{read_fault_line, write_fault_line}
+use Rattle.bed_top.specs.Writes.{Wrote, Stopped}
+use Rattle.bed_top.specs.Puts.{Owed, owes, owes_memory, Pays, SinkGoesOn}
+use Rattle.bed_top.specs.Work.{base}
+use Rattle.bed_top.specs.Chains.{Due}
 use Rattle.bed_top.specs.declared.status.Status.{Status}
 use Rattle.bed_top.specs.declared.status.Status.TheVariants.{Done, Usage, Limit, ReadFault, WriteFault, Memory}
 
--- one run: what was read, the status of the work with its cause, and what was put
-pub record Ran (words : List (List ℕ)) (old new : FilesState) (sink_old sink_new : SinkState) (result : Status) : Type 0 where
+-- the end is due by the words and the texts that were read
+pub record IsDue (words texts : List (List ℕ)) (old : FilesState) (e : End) : Type 0 where
+  pub read : (job : Job) → Asks words job → HasRead job texts old
+  pub due : Due (view words texts) e
+
+-- of a link that the words ask for, the first module file without a text couldn't be read
+pub record Unread (words texts : List (List ℕ)) (old new : FilesState) (line : List ℕ) : Type 0 where
   pub job : Job
+  pub asked : Asks words job
+  pub fewer : length texts < length job.modules
+  pub is : line ≡ read_fault_line (word_at job.modules (length texts))
+  pub rose : Rose old.read_faults new.read_faults
+  pub absent : IsAbsent old new (word_at job.modules (length texts))
+
+-- What the work comes to before the lines: an end, all of whose writes were made; a read that failed; a write that failed; or want
+-- of memory, before the writes or in one.
+pub data Worked (words texts : List (List ℕ)) (old new : FilesState) (owed : Owed) : Type 0 where
+  ended : (e : End) → IsDue words texts old e → Wrote e.writes old new → owed ≡ owes e.status e.lines → Worked words texts old new owed
+  unread : (line : List ℕ) → Unread words texts old new line → SameFiles old new → owed ≡ owes ReadFault (line ∷ []) → Worked words texts old new owed
+  unwritten : (e : End) → IsDue words texts old e → (s : Stopped e.writes old new) → Rose old.write_faults new.write_faults
+      → owed ≡ owes (WriteFault false) (write_fault_line s.tried.name ∷ []) → Worked words texts old new owed
+  short : SameFiles old new → owed ≡ owes_memory → Worked words texts old new owed
+  short_of : (e : End) → IsDue words texts old e → Stopped e.writes old new → owed ≡ owes_memory → Worked words texts old new owed
+
+-- one run: the texts that were read, what the work came to, and what was put
+pub record Ran (words : List (List ℕ)) (old new : FilesState) (sink_old sink_new : SinkState) (result : Status) : Type 0 where
   pub texts : List (List ℕ)
-  pub due : Status
-  pub worked : Worked words job texts old new due
-  pub reports : Reports job texts sink_old sink_new due result
-  pub goes_on : SinkGoesOn sink_old sink_new
+  pub owed : Owed
+  pub worked : Worked words texts old new owed
+  pub pays : Pays owed sink_old sink_new result
+  pub goes_on : GoesOn old new
+  pub sink_goes_on : SinkGoesOn sink_old sink_new
+  pub calm : KeepsCalm words old new
 
 -- what the module files of a link hold, an absent one nothing
 abbrev pub contents : FilesState → Job → List (List ℕ)
@@ -63,12 +93,35 @@ pub record NoFault (old new : FilesState) (sink_old sink_new : SinkState) : Type
   pub writes : Rose old.write_faults new.write_faults → ⊥
   pub puts : Rose sink_old.faults sink_new.faults → ⊥
 
--- Where the files tell their contents and no count of faults rises, the answer is the one that is due by the words and the
--- contents of the module files, or want of memory.
-abbrev pub Exactly : List (List ℕ) → FilesState → FilesState → SinkState → SinkState → Status → Type 0
-Exactly words old new sink_old sink_new result =
-    IsTrue old.tells → NoFault old new sink_old sink_new → (job : Job) → (due : Status) → Due words job (contents old job) due
-    → (result ≡ due) ⊎ (result ≡ Memory)
+-- the texts are what the module files hold, where the words ask for a link
+abbrev pub Hold : List (List ℕ) → FilesState → List (List ℕ) → Type 0
+Hold words old texts = (job : Job) → Asks words job → texts ≡ contents old job
+
+-- an end is due by the words and the contents of the module files
+abbrev pub IsDueFor : List (List ℕ) → FilesState → End → Type 0
+IsDueFor words old e = (texts : List (List ℕ)) × Hold words old texts × Due (view words texts) e
+
+-- Where the files tell their contents and no count of faults rises, the answer is the status of each end that is due by the words
+-- and the contents of the module files, or want of memory; and there is such an end.
+pub record Exactly (words : List (List ℕ)) (old new : FilesState) (sink_old sink_new : SinkState) (result : Status) : Type 0 where
+  pub due : (e : End) × IsDueFor words old e
+  pub only : IsTrue old.tells → NoFault old new sink_old sink_new → (e : End) → IsDueFor words old e → (result ≡ e.status) ⊎ (result ≡ Memory)
+
+-- these modules of a job are linked: no text is too long, they aren't too many functions, no rule of names is broken, all is built,
+-- and each condition holds
+pub record IsLinkable (job : Job) (texts : List (List ℕ)) (modules : List Module) : Type 0 where
+  pub fits : list_any is_long texts ≡ false
+  pub read : AreModules texts modules
+  pub few : function_count modules ≤ most_functions
+  pub scoped : first_misnamed 0 modules ≡ None
+  pub built : unbuilt_file job.modules (map resolved modules) ≡ None
+  pub kept : broken_of (map resolved modules) ≡ None
+
+-- Where the files tell their contents and no count of faults rises, a link whose modules can be linked is done, or memory ran out.
+abbrev pub Complete : List (List ℕ) → FilesState → FilesState → SinkState → SinkState → Status → Type 0
+Complete words old new sink_old sink_new result =
+    IsTrue old.tells → NoFault old new sink_old sink_new → (job : Job) → (modules : List Module) → Asks words job
+    → IsLinkable job (contents old job) modules → (result ≡ Done) ⊎ (result ≡ Memory)
 
 -- the due status, but for want of memory and a fault of the sink
 abbrev pub Yields : Status → Status → Type 0

@@ -1,12 +1,17 @@
 //! What the words ask for.
-ghost use Rattle.std.specs.Prelude.{◌≡◌, map, string_bytes, option_copied, None, IfOk, IfErr};
+ghost use Rattle.std.specs.Prelude.{◌≡◌, ℕ, List, map, string_bytes, option_copied, None, IfOk};
+ghost use Rattle.bed_words.specs.Commands.{IsCommand};
+ghost use Rattle.bed_words.specs.Limits.{limit_of};
 ghost use Rattle.bed_words.specs.Options.{is_option};
-ghost use Rattle.bed_top.specs.Causes.{word_at, unbuilt_word, words_status, Asks};
-ghost use Rattle.bed_top.specs.Outcomes.{IsRefused, OrMemory};
-ghost use Rattle.bed_top.specs.declared.status.Status.TheVariants as status;
+ghost use Rattle.bed_top.specs.Causes.{word_at, unbuilt_word, Asks};
+ghost use Rattle.bed_top.specs.Chains.{asking};
+ghost use Rattle.bed_top.specs.Gives.{stop_of, Gives};
+ghost use Rattle.bed_top.specs.Views.{view};
+ghost use Rattle.bed_top.specs.Work.{IsAsked, IsCommanded};
 
+use crate::line::Line;
+use crate::plan::{Stop, refuse_unbuilt};
 use crate::status::Status;
-use bed_lang::List;
 use bed_words::{Command, CommandError, Job, read_command};
 use std::alloc::Global;
 
@@ -24,16 +29,6 @@ fn looks_like_option(word: &[u8]) -> bool
     ensures { result ≡ is_option word.now }
 {
     word.starts_with(b"--")
-}
-
-/// The refusal of a word or a file that needs what isn't built.
-pub(crate) fn not_built(alloc: Global, what: &[u8]) -> Status
-    ensures { OrMemory (λ s. s ≡ status.NotBuilt what.now) result }
-{
-    match List::from_slice(alloc, what) {
-        Ok(what) => Status::NotBuilt { what },
-        Err(_) => Status::Memory,
-    }
 }
 
 /// The first word of a command that isn't built.
@@ -74,31 +69,53 @@ fn job_of(words: &[String], command: Command) -> Job
     }
 }
 
-/// The status of words that are no command, or one that passes a limit.
-fn refused(error: CommandError) -> Status
-    ensures { result ≡ words_status error }
+/// The refusal of words that are no command, or one that passes a limit.
+fn refuse(error: CommandError) -> Stop
+    ensures { result ≡ stop_of error }
 {
     match error {
-        CommandError::Usage { word } => Status::Usage { word },
-        CommandError::Limit { which } => Status::Limit { which },
-        CommandError::Memory => Status::Memory,
+        CommandError::Usage { word } => Stop::Refused {
+            status: Status::Usage { word },
+            line: Line::Usage(word),
+        },
+        CommandError::Limit { which } => Stop::Refused {
+            status: Status::Limit { which },
+            line: Line::Limit(which),
+        },
+        CommandError::Memory => Stop::Memory,
+    }
+}
+
+/// The command that the words are.
+fn commanded(alloc: Global, words: &[String]) -> Result<Command, Stop>
+    ensures gives { (texts : List (List ℕ)) → Gives IsCommanded (λ c. c) (view (map string_bytes words.now) texts) tt result }
+    ensures command { IfOk result (λ c. IsCommand (map string_bytes words.now) c × (limit_of c ≡ None)) }
+{
+    if words.len() > u32::MAX as usize {
+        return Err(Stop::Memory);
+    }
+    match read_command(alloc, words) {
+        Ok(command) => Ok(command),
+        Err(error) => Err(refuse(error)),
+    }
+}
+
+/// The link that a command is.
+fn link_of(alloc: Global, words: &[String], command: Command) -> Result<Job, Stop>
+    ensures gives { (texts : List (List ℕ)) → Gives IsAsked (λ j. j) (view (map string_bytes words.now) texts) command result }
+    ensures link { IfOk result (λ j. (command ≡ Command.Link j) × (unbuilt_word (map string_bytes words.now) command ≡ None)) }
+{
+    match unbuilt(words, &command) {
+        Some(what) => Err(refuse_unbuilt(alloc, what)),
+        None => Ok(job_of(words, command)),
     }
 }
 
 /// The link that the words ask for.
-pub(crate) fn asked(alloc: Global, words: &[String]) -> Result<Job, Status>
-    ensures ok { IfOk result (Asks (map string_bytes words.now)) }
-    ensures refused { IfErr result (IsRefused (map string_bytes words.now)) }
+pub(crate) fn asked(alloc: Global, words: &[String]) -> Result<Job, Stop>
+    ensures gives { (texts : List (List ℕ)) → Gives asking (λ j. j) (view (map string_bytes words.now) texts) tt result }
+    ensures asks { IfOk result (Asks (map string_bytes words.now)) }
 {
-    if words.len() > u32::MAX as usize {
-        return Err(Status::Memory);
-    }
-    let command = match read_command(alloc, words) {
-        Ok(command) => command,
-        Err(error) => return Err(refused(error)),
-    };
-    match unbuilt(words, &command) {
-        Some(what) => Err(not_built(alloc, what)),
-        None => Ok(job_of(words, command)),
-    }
+    let command = commanded(alloc, words)?;
+    link_of(alloc, words, command)
 }

@@ -2,13 +2,17 @@
 #![tactic(auto)]
 
 mod asked;
-mod build;
 mod call;
+mod files;
+mod judge;
 pub mod laws;
-mod lines;
+mod line;
 mod modules;
 mod place;
+mod plan;
+mod report;
 mod returns;
+mod stages;
 mod status;
 mod texts;
 

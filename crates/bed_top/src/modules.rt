@@ -4,90 +4,148 @@ ghost use Rattle.std.specs.Vec.Iter.{into_iter_items};
 ghost use Rattle.bed_lang.specs.declared.module.Module.{Module};
 ghost use Rattle.bed_names.specs.Resolved.{resolved};
 ghost use Rattle.bed_names.specs.declared.error.NameError.TheVariants as name;
-ghost use Rattle.bed_top.specs.Causes.{first_misnamed, function_count, name_status, names_at, read_status, syntax_at, AreModules};
-ghost use Rattle.bed_top.specs.Outcomes.{modules_of, texts_of, AreCut, IsRefusedFrom, OrMemory};
+ghost use Rattle.bed_top.specs.Causes.{first_misnamed, function_count, AreModules};
+ghost use Rattle.bed_top.specs.Gives.{modules_of, texts_of, IsStop};
+ghost use Rattle.bed_top.specs.Outcomes.{AreCut, IsRefusedFrom};
+ghost use Rattle.bed_top.specs.Work.{misnamed, names_refusal, rule_of, syntax_refusal, unread};
 
+use crate::line::Line;
 use crate::place::place;
+use crate::plan::{Stop, refuse_limit};
 use crate::status::{NameKind, Status, SyntaxKind};
-use bed_lang::Module;
+use bed_lang::{List, Module};
 use bed_names::{NameError, Scoped, scope};
 use bed_read::{ReadError, read_module};
 use std::alloc::Global;
 use std::vec::IntoIter;
 
-fn syntax(file: u32, text: &[u8], at: u32, kind: SyntaxKind) -> Status
-    requires { length text.now + 3 < 2 ^ 32 }
-    ensures { result ≡ syntax_at file text.now at kind }
+fn refuse_syntax(
+    alloc: Global,
+    file: u32,
+    called: &[u8],
+    kind: SyntaxKind,
+    place: (u32, u32),
+) -> Stop
+    ensures { IsStop (syntax_refusal file called.now kind place) result }
 {
-    let (line, column) = place(text, at);
-    Status::Syntax {
-        file,
-        line,
-        column,
-        kind,
+    let (line, column) = place;
+    match List::from_slice(alloc, called) {
+        Ok(called) => Stop::Refused {
+            status: Status::Syntax {
+                file,
+                line,
+                column,
+                kind,
+            },
+            line: Line::Syntax {
+                file: called,
+                line,
+                column,
+                kind,
+            },
+        },
+        Err(_) => Stop::Memory,
     }
 }
 
-fn names(file: u32, text: &[u8], at: u32, kind: NameKind) -> Status
-    requires { length text.now + 3 < 2 ^ 32 }
-    ensures { result ≡ names_at file text.now at kind }
+fn refuse_name(alloc: Global, file: u32, called: &[u8], kind: NameKind, place: (u32, u32)) -> Stop
+    ensures { IsStop (names_refusal file called.now kind place) result }
 {
-    let (line, column) = place(text, at);
-    Status::Names {
-        file,
-        line,
-        column,
-        kind,
+    let (line, column) = place;
+    match List::from_slice(alloc, called) {
+        Ok(called) => Stop::Refused {
+            status: Status::Names {
+                file,
+                line,
+                column,
+                kind,
+            },
+            line: Line::Names {
+                file: called,
+                line,
+                column,
+                kind,
+            },
+        },
+        Err(_) => Stop::Memory,
     }
 }
 
-/// The status of a refusal of the reader.
-fn unread(file: u32, text: &[u8], error: ReadError) -> Status
+/// The refusal of a text of the file with this number and name.
+pub(crate) fn refuse_text(
+    alloc: Global,
+    file: u32,
+    called: &[u8],
+    text: &[u8],
+    error: ReadError,
+) -> Stop
     requires { length text.now + 3 < 2 ^ 32 }
-    ensures { result ≡ read_status file text.now error }
+    ensures stop { IsStop (unread file called.now text.now error) result }
+    ensures memory { error ≡ ReadError.Memory → result ≡ Stop.Memory }
 {
     match error {
-        ReadError::BadByte { at } => syntax(file, text, at, SyntaxKind::Byte),
-        ReadError::Unexpected { at } => syntax(file, text, at, SyntaxKind::Token),
-        ReadError::Number { at } => syntax(file, text, at, SyntaxKind::Number),
-        ReadError::Limit { which, .. } => Status::Limit { which },
-        ReadError::Memory => Status::Memory,
-    }
-}
-
-/// The status of a refusal of names.
-pub(crate) fn misnamed(file: u32, text: &[u8], error: NameError) -> Status
-    requires { length text.now + 3 < 2 ^ 32 }
-    ensures { result ≡ name_status file text.now error }
-{
-    match error {
-        NameError::Unknown { at } => names(file, text, at, NameKind::Unknown),
-        NameError::Twice { at } => names(file, text, at, NameKind::Twice),
-        NameError::Sort { at } => names(file, text, at, NameKind::Sort),
-        NameError::Arity { at } => names(file, text, at, NameKind::Arity),
-        NameError::FallsOff { at } => names(file, text, at, NameKind::FallsOff),
-        NameError::MissingJoin { at } => names(file, text, at, NameKind::MissingJoin),
-        NameError::Dead { at } => names(file, text, at, NameKind::Dead),
-        NameError::StackRoom { at, needs, has } => {
-            names(file, text, at, NameKind::StackRoom { needs, has })
+        ReadError::BadByte { at } => {
+            refuse_syntax(alloc, file, called, SyntaxKind::Byte, place(text, at))
         }
-        NameError::Memory => Status::Memory,
+        ReadError::Unexpected { at } => {
+            refuse_syntax(alloc, file, called, SyntaxKind::Token, place(text, at))
+        }
+        ReadError::Number { at } => {
+            refuse_syntax(alloc, file, called, SyntaxKind::Number, place(text, at))
+        }
+        ReadError::Limit { which, .. } => refuse_limit(which),
+        ReadError::Memory => Stop::Memory,
     }
 }
 
-#[tactic(auto, using(crate::proofs::StageLaws::cut_rest))]
+/// Where in a text a rule of names is broken, and the rule; nothing for want of memory.
+fn broken_rule(error: NameError) -> Option<(u32, NameKind)>
+    ensures { result ≡ rule_of error }
+{
+    match error {
+        NameError::Unknown { at } => Some((at, NameKind::Unknown)),
+        NameError::Twice { at } => Some((at, NameKind::Twice)),
+        NameError::Sort { at } => Some((at, NameKind::Sort)),
+        NameError::Arity { at } => Some((at, NameKind::Arity)),
+        NameError::FallsOff { at } => Some((at, NameKind::FallsOff)),
+        NameError::MissingJoin { at } => Some((at, NameKind::MissingJoin)),
+        NameError::Dead { at } => Some((at, NameKind::Dead)),
+        NameError::StackRoom { at, needs, has } => Some((at, NameKind::StackRoom { needs, has })),
+        NameError::Memory => None,
+    }
+}
+
+/// The refusal of the names of the file with this number and name.
+pub(crate) fn refuse_names(
+    alloc: Global,
+    file: u32,
+    called: &[u8],
+    text: &[u8],
+    error: NameError,
+) -> Stop
+    requires { length text.now + 3 < 2 ^ 32 }
+    ensures stop { IsStop (misnamed file called.now text.now error) result }
+    ensures memory { error ≡ NameError.Memory → result ≡ Stop.Memory }
+{
+    match broken_rule(error) {
+        Some((at, kind)) => refuse_name(alloc, file, called, kind, place(text, at)),
+        None => Stop::Memory,
+    }
+}
+
+#[tactic(auto, using(crate::proofs::ReadLemmas::cut_rest))]
 /// Reads these texts, of which the first is that of the file with this number, and appends their
-/// modules; or gives the refusal of the first that is no module.
+/// modules; or gives the number of the first that is no module, and its refusal.
 pub(crate) fn read_modules(
     alloc: Global,
     file: u32,
     texts: &[Vec<u8>],
     modules: &mut Vec<Module>,
-) -> Result<(), Status>
+) -> Result<(), (u32, ReadError)>
     requires few { file + length texts.now < 2 ^ 32 }
     requires cut { AreCut (texts_of texts.now) }
     ensures ok { OnOk result ((ms : List Module) × AreModules (texts_of texts.now) ms × (modules.new.items ≡ modules.old.items ++ ms)) }
-    ensures refused { IfErr result (OrMemory (IsRefusedFrom file (texts_of texts.now))) }
+    ensures refused { IfErr result (IsRefusedFrom file (texts_of texts.now)) }
 {
     let [text, rest @ ..] = texts else {
         return Ok(());
@@ -95,11 +153,11 @@ pub(crate) fn read_modules(
     match read_module(alloc, text) {
         Ok(module) => {
             if modules.push(module).is_err() {
-                return Err(Status::Memory);
+                return Err((file, ReadError::Memory));
             }
             read_modules(alloc, file + 1, rest, modules)
         }
-        Err(error) => Err(unread(file, text, error)),
+        Err(error) => Err((file, error)),
     }
 }
 

@@ -2,7 +2,8 @@
 ghost use Rattle.std.specs.Prelude.{◌≡◌, ◌++◌, ◌+◌, ◌≤◌, ℕ, List, length, map, OnOk};
 ghost use Rattle.std.specs.List.{list_any};
 ghost use Rattle.bed_io.specs.Files.{FilesState};
-ghost use Rattle.bed_top.specs.Outcomes.{holds_long, texts_of, AreCut, ReadsTexts};
+ghost use Rattle.bed_top.specs.Gives.{texts_of};
+ghost use Rattle.bed_top.specs.Outcomes.{holds_long, AreCut, ReadsTexts};
 
 use bed_io::{FileRefusal, Files};
 use bed_lang::Text;

@@ -1,5 +1,5 @@
 // The answers to faults that the program can't be made to meet: files in memory whose calls fail by their numbers, and a sink
-// with little room. Each other answer is a folder of tests/top.
+// with little room. Each other answer is a case of tests/top.cases.
 use bed_io::{Host, MemFiles, MemSink};
 use bed_top::top;
 use std::alloc::{AllocError, Global};

@@ -1,10 +1,12 @@
-use Rattle.std.proofs.Common.{sym}
-use Rattle.bed_top.proofs.StageLaws.{refused_words, unbuilt_words}
+use Rattle.bed_top.proofs.LeafLemmas.{link_asks}
+use Rattle.bed_top.proofs.StageLemmas.{stopped, went}
 use Rattle.bed_top.proofs.asked.asked.Goals as goal
 
-pub returns-in-Err-clause-refused : goal.returns-in-Err-clause-refused
-returns-in-Err-clause-refused c = refused_words _ c.in-Err.error c.in-Err.ensures.usage c.in-Err.ensures.limit _ c.refused.ensures
+pub returns-in_err-command-clause-gives : goal.returns-in_err-command-clause-gives
+returns-in_err-command-clause-gives c = λ texts. stopped c.from_residual.ensures.1 (c.in_err-command.ensures.gives texts)
 
-pub returns-in-Some-clause-refused : goal.returns-in-Some-clause-refused
-returns-in-Some-clause-refused c =
-    unbuilt_words _ c.in-Ok.command c.in-Some.what.now c.in-Ok.ensures.ok.0 c.in-Ok.ensures.ok.1 (sym c.in-Some.ensures) _ c.not_built.ensures
+pub returns-clause-gives : goal.returns-clause-gives
+returns-clause-gives c = λ texts. went (c.in_ok-command.ensures.gives texts) (c.link_of.ensures.gives texts)
+
+pub returns-clause-asks : goal.returns-clause-asks
+returns-clause-asks c = link_asks _ _ c.link_of.result c.in_ok-command.ensures.command.0 c.in_ok-command.ensures.command.1 c.link_of.ensures.link

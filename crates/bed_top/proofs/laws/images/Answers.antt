@@ -1,4 +1,4 @@
-use Rattle.bed_top.proofs.ImageLaws.{resolved_have_the_image}
+use Rattle.bed_top.proofs.ImageLemmas.{resolved_have_the_image}
 use Rattle.bed_top.proofs.laws.images.Goals as goal
 
 pub returns : goal.returns

@@ -1,7 +1,7 @@
 use Rattle.std.proofs.Common.{◌≡◌, ◌++◌, ◌∷◌, [], rules}
 use Rattle.std.proofs.lemmas.Result.{on_ok_weaker}
 use Rattle.std.specs.Vec.Iter.{into_iter_items}
-use Rattle.bed_top.proofs.StageLaws.{scope_more}
+use Rattle.bed_top.proofs.ReadLemmas.{scope_more}
 use Rattle.bed_top.proofs.modules.+scope_modules.Goals as goal
 
 pub returns-else-is_err-clause-ok : goal.returns-else-is_err-clause-ok

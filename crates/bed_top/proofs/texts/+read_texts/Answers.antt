@@ -1,5 +1,5 @@
 use Rattle.std.proofs.Common.{◌≡◌, ◌++◌, ◌∷◌, [], Err, IsTrue, is_ok, refl, ◌∙◌, ap, rules}
-use Rattle.bed_top.proofs.StageLaws.{none_read, more_read}
+use Rattle.bed_top.proofs.ReadLemmas.{none_read, more_read}
 use Rattle.bed_top.proofs.texts.+read_texts.Goals as goal
 
 pub returns-in-Err : goal.returns-in-Err
