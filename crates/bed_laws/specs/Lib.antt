@@ -1,0 +1,5 @@
+pub mod Activations
+pub mod Described
+pub mod Keeps
+pub mod Spans
+pub mod StatementBlocks
