@@ -6,3 +6,4 @@ pub mod StraightLaws
 pub mod TestLaws
 pub mod LoopLaws
 pub mod ChoiceLaws
+pub mod StatementLaws

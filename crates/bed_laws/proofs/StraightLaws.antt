@@ -32,23 +32,7 @@ ok_place s p q e = let same = ok_same e in (sym (ap (λ x. x.label) same) ∙ p,
 abbrev pub after_inst : BlockState → BlockState
 after_inst t = record t { next = t.next + 1 }
 
-module _ (w : World) (c : FunctionSite) (places : ℕ → ℕ) (B : List Block) (heads : List LoopHead) (a : Activation) (Q : BlockState → Type 0) where
-  abbrev pub SafeHere : ℕ → BlockState → Type 0
-  SafeHere n s = Safe w c places B heads a Q n s
-
-  -- the rest stays while these instructions are made one after the other, none faults, and P holds at the end
-  abbrev pub Runs : List Inst → (BlockState → Type 0) → BlockState → Type 0
-  Runs [] P s = P s
-  Runs (i ∷ is) P s = Includes s.memory a.rest × (t : BlockState) × (effect w.labels places i s ≡ Ok t) × Runs is P (after_inst t)
-
-  pub runs_append : (is js : List Inst) (P : BlockState → Type 0) (s : BlockState) → Runs is (Runs js P) s → Runs (is ++ js) P s
-  runs_append [] js P s r = r
-  runs_append (i ∷ is) js P s r = (r.0, r.1, r.2, runs_append is js P (after_inst r.1) r.3)
-
-  pub runs_more : (is : List Inst) (P P2 : BlockState → Type 0) → ((t : BlockState) → P t → P2 t) → (s : BlockState) → Runs is P s → Runs is P2 s
-  runs_more [] P P2 f s r = f s r
-  runs_more (i ∷ is) P P2 f s r = (r.0, r.1, r.2, runs_more is P P2 f (after_inst r.1) r.3)
-
+module _ (w : World) (places : ℕ → ℕ) where
   get_place : (o : Option ℕ) (x : ℕ) (f : ℕ → BlockState) (s t : BlockState) → ((v : ℕ) → (f v).label ≡ s.label) → ((v : ℕ) → (f v).next ≡ s.next) → on_access o x f ≡ Ok t → (t.label ≡ s.label) × (t.next ≡ s.next)
   get_place None x f s t p q e = absurd (err_ok e)
   get_place (Some v) x f s t p q e = ok_place s (p v) (q v) e
@@ -75,6 +59,24 @@ module _ (w : World) (c : FunctionSite) (places : ℕ → ℕ) (B : List Block) 
   effect_place (LowerSp n) s t e = ok_place s refl refl e
   effect_place (ReturnTo l) s t e = ok_place s refl refl e
 
+  module _ (a : Activation) where
+    -- the rest stays while these instructions are made one after the other, none faults, and P holds at the end
+    abbrev pub Runs : List Inst → (BlockState → Type 0) → BlockState → Type 0
+    Runs [] P s = P s
+    Runs (i ∷ is) P s = Includes s.memory a.rest × (t : BlockState) × (effect w.labels places i s ≡ Ok t) × Runs is P (after_inst t)
+
+    pub runs_append : (is js : List Inst) (P : BlockState → Type 0) (s : BlockState) → Runs is (Runs js P) s → Runs (is ++ js) P s
+    runs_append [] js P s r = r
+    runs_append (i ∷ is) js P s r = (r.0, r.1, r.2, runs_append is js P (after_inst r.1) r.3)
+
+    pub runs_more : (is : List Inst) (P P2 : BlockState → Type 0) → ((t : BlockState) → P t → P2 t) → (s : BlockState) → Runs is P s → Runs is P2 s
+    runs_more [] P P2 f s r = f s r
+    runs_more (i ∷ is) P P2 f s r = (r.0, r.1, r.2, runs_more is P P2 f (after_inst r.1) r.3)
+
+module _ (w : World) (c : FunctionSite) (places : ℕ → ℕ) (B : List Block) (heads : List LoopHead) (a : Activation) (Q : BlockState → Type 0) where
+  abbrev pub SafeHere : ℕ → BlockState → Type 0
+  SafeHere n s = Safe w c places B heads a Q n s
+
   module _ (b : Block) (found : block_at B b.label ≡ Some b) where
     move_is : (s : BlockState) → s.label ≡ b.label → il_move w.labels places B s ≡ in_block w.labels places (slice_get b.insts s.next) b s
     move_is s e = ap (λ o. in_blocks w.labels places o s) (ap (block_at B) e ∙ found)
@@ -93,7 +95,7 @@ module _ (w : World) (c : FunctionSite) (places : ℕ → ℕ) (B : List Block) 
     -- a block is safe where its instructions run, and then its jump is safe
     pub straight : (n : ℕ) (done is : List Inst) (s : BlockState) → b.insts ≡ done ++ is → s.label ≡ b.label → s.next ≡ length done
         → ((x : LoopHead) → Contains heads x → b.label ≡ x.label → s.next ≡ 0 → IsAtHead w c a x.invariant s)
-        → Runs is (λ t. Includes t.memory a.rest × ((m : ℕ) → m < n → Turns w c places B heads a Q (SafeHere m) (follows b.jump b.insts t) t)) s
+        → Runs w places a is (λ t. Includes t.memory a.rest × ((m : ℕ) → m < n → Turns w c places B heads a Q (SafeHere m) (follows b.jump b.insts t) t)) s
         → SafeHere n s
     straight zero done [] s split e at head runs = inside s e runs.0 head
     straight zero done (i ∷ is) s split e at head runs = inside s e runs.0 head
@@ -102,11 +104,11 @@ module _ (w : World) (c : FunctionSite) (places : ℕ → ℕ) (B : List Block) 
         (inside s e runs.0 head, subst (λ m. Turns w c places B heads a Q (SafeHere n) m s) (sym (move_is s e ∙ ap (λ o. in_block w.labels places o b s) end)) (runs.1 n (omega arith)))
     straight (suc n) done (i ∷ is) s split e at head runs =
         let here : slice_get b.insts s.next ≡ Some i = ap₂ slice_get split at ∙ get_middle done i is in
-        let kept = effect_place i s runs.1 runs.2 in
+        let kept = effect_place w places i s runs.1 runs.2 in
         let then : SafeHere n (after_inst runs.1) = straight n (done ++ (i ∷ [])) is (after_inst runs.1)
         (split ∙ sym (append_assoc done (i ∷ []) is)) (kept.0 ∙ e) (omega (arith, kept.1, length-append done (i ∷ [])))
         (λ x is l z. absurd (omega arith))
-        (runs_more is _ _ (λ t p. (p.0, λ m lt. p.1 m (omega arith))) (after_inst runs.1) runs.3) in (
+        (runs_more w places a is _ _ (λ t p. (p.0, λ m lt. p.1 m (omega arith))) (after_inst runs.1) runs.3) in (
           inside s e runs.0 head,
           subst (λ m. Turns w c places B heads a Q (SafeHere n) m s)
               (sym (move_is s e ∙ ap (λ o. in_block w.labels places o b s) here ∙ ap to_next runs.2)) then,

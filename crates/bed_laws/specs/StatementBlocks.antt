@@ -3,15 +3,18 @@ use Rattle.std.specs.Prelude.{ℕ, List, [], ◌∷◌}
 use Rattle.bed_lang.specs.declared.word.Name.{Name}
 use Rattle.bed_lang.specs.declared.module.Operand.{Operand}
 use Rattle.bed_lang.specs.declared.module.Operand.TheVariants as operand
+use Rattle.bed_lang.specs.declared.module.Op.{Op}
+use Rattle.bed_lang.specs.declared.module.Place.{Place}
 use Rattle.bed_lang.specs.declared.module.Test.{Test}
 use Rattle.bed_table.specs.Words.{slot}
+use Rattle.bed_machine.specs.declared.registers.Reg.TheVariants.{Esi}
 use Rattle.bed_il.specs.declared.blocks.Scratch.TheVariants.{First, Second}
 use Rattle.bed_il.specs.declared.blocks.Value.{Value}
 use Rattle.bed_il.specs.declared.blocks.Value.TheVariants.{Number, Slot, Function}
 use Rattle.bed_il.specs.declared.blocks.Inst.{Inst}
-use Rattle.bed_il.specs.declared.blocks.Inst.TheVariants.{Fetch}
+use Rattle.bed_il.specs.declared.blocks.Inst.TheVariants.{Fetch, Keep, Apply, LoadWord, LoadByte, StoreWord, StoreByte, SetAnswer, TakeReturn}
 use Rattle.bed_il.specs.declared.blocks.Jump.TheVariants as jump
-use Rattle.bed_il.specs.declared.blocks.Jump.TheVariants.{Goto, Fall}
+use Rattle.bed_il.specs.declared.blocks.Jump.TheVariants.{Goto, Fall, Register}
 use Rattle.bed_il.specs.declared.blocks.Block.{Block}
 use Rattle.bed_laws.specs.Activations.{IsAmong}
 
@@ -41,3 +44,43 @@ test_block locals t first on_true on_false = record {
   insts = Fetch First (value_of locals t.left) ∷ Fetch Second (value_of locals t.right) ∷ [];
   jump = jump.Test t.rel on_true on_false;
 }
+
+-- the blocks of the statements without a call and without statements in them; in a function's locals, at a label, on to another
+module _ (locals : List Name) where
+  abbrev pub keep : Name → Inst
+  keep x = Keep (slot locals x.bytes)
+
+  -- x <- a
+  abbrev pub assign_block : Name → Operand → ℕ → ℕ → Block
+  assign_block x a first next = falling first (Fetch First (value_of locals a) ∷ keep x ∷ []) next
+
+  -- x <- a op b
+  abbrev pub compute_block : Name → Op → Operand → Operand → ℕ → ℕ → Block
+  compute_block x op a b first next =
+      falling first (Fetch First (value_of locals a) ∷ Fetch Second (value_of locals b) ∷ Apply op ∷ keep x ∷ []) next
+
+  -- x <- [p], and of a byte
+  abbrev pub load_block : Name → Place → ℕ → ℕ → Block
+  load_block x p first next = falling first (Fetch First (value_of locals p.base) ∷ LoadWord p.disp ∷ keep x ∷ []) next
+
+  abbrev pub load_byte_block : Name → Place → ℕ → ℕ → Block
+  load_byte_block x p first next = falling first (Fetch First (value_of locals p.base) ∷ LoadByte p.disp ∷ keep x ∷ []) next
+
+  -- [p] <- a, and of a byte
+  abbrev pub store_block : Place → Operand → ℕ → ℕ → Block
+  store_block p a first next = falling first (Fetch First (value_of locals p.base) ∷ Fetch Second (value_of locals a) ∷ StoreWord p.disp ∷ []) next
+
+  abbrev pub store_byte_block : Place → Operand → ℕ → ℕ → Block
+  store_byte_block p a first next = falling first (Fetch First (value_of locals p.base) ∷ Fetch Second (value_of locals a) ∷ StoreByte p.disp ∷ []) next
+
+  -- return a
+  abbrev pub return_block : Operand → ℕ → Block
+  return_block a first = record {
+    label = first;
+    insts = Fetch First (value_of locals a) ∷ SetAnswer ∷ TakeReturn ∷ [];
+    jump = Register Esi;
+  }
+
+-- no statement, or a hint: a block of its own with no bytes, since control comes to a label
+abbrev pub empty_block : ℕ → ℕ → Block
+empty_block first next = falling first [] next
