@@ -7,3 +7,4 @@ pub mod TestLaws
 pub mod LoopLaws
 pub mod ChoiceLaws
 pub mod StatementLaws
+pub mod CallLaws

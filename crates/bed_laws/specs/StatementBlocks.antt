@@ -1,18 +1,19 @@
 -- The blocks of statements: each row of the code table in the instructions of blocks.
-use Rattle.std.specs.Prelude.{ℕ, List, [], ◌∷◌}
+use Rattle.std.specs.Prelude.{ℕ, ◌+◌, ◌*◌, List, [], ◌∷◌, ◌++◌}
+use Rattle.bed_lang.specs.Numbers.{wrap}
 use Rattle.bed_lang.specs.declared.word.Name.{Name}
 use Rattle.bed_lang.specs.declared.module.Operand.{Operand}
 use Rattle.bed_lang.specs.declared.module.Operand.TheVariants as operand
 use Rattle.bed_lang.specs.declared.module.Op.{Op}
 use Rattle.bed_lang.specs.declared.module.Place.{Place}
 use Rattle.bed_lang.specs.declared.module.Test.{Test}
-use Rattle.bed_table.specs.Words.{slot}
-use Rattle.bed_machine.specs.declared.registers.Reg.TheVariants.{Esi}
+use Rattle.bed_table.specs.Words.{slot, call_area}
+use Rattle.bed_machine.specs.declared.registers.Reg.TheVariants.{Edx, Esi}
 use Rattle.bed_il.specs.declared.blocks.Scratch.TheVariants.{First, Second}
 use Rattle.bed_il.specs.declared.blocks.Value.{Value}
 use Rattle.bed_il.specs.declared.blocks.Value.TheVariants.{Number, Slot, Function}
 use Rattle.bed_il.specs.declared.blocks.Inst.{Inst}
-use Rattle.bed_il.specs.declared.blocks.Inst.TheVariants.{Fetch, Keep, Apply, LoadWord, LoadByte, StoreWord, StoreByte, SetAnswer, TakeReturn}
+use Rattle.bed_il.specs.declared.blocks.Inst.TheVariants.{Fetch, Keep, Apply, LoadWord, LoadByte, StoreWord, StoreByte, RaiseSp, LowerSp, ReturnTo, KeepAnswer, SetAnswer, TakeReturn}
 use Rattle.bed_il.specs.declared.blocks.Jump.TheVariants as jump
 use Rattle.bed_il.specs.declared.blocks.Jump.TheVariants.{Goto, Fall, Register}
 use Rattle.bed_il.specs.declared.blocks.Block.{Block}
@@ -80,6 +81,28 @@ module _ (locals : List Name) where
     insts = Fetch First (value_of locals a) ∷ SetAnswer ∷ TakeReturn ∷ [];
     jump = Register Esi;
   }
+
+  -- the arguments of a call, from number i on, go to the words 1 + i of the callee's frame
+  abbrev pub argument_insts : ℕ → List Operand → List Inst
+  argument_insts i [] = []
+  argument_insts i (a ∷ more) = Fetch First (value_of locals a) ∷ Keep (wrap (call_area locals + (4 + 4 * i))) ∷ argument_insts (1 + i) more
+
+  -- x <- call target(arguments): a block that leaves, and one to which the call comes back
+  abbrev pub leave_insts : Operand → ℕ → List Inst
+  leave_insts target back = Fetch Second (value_of locals target) ∷ RaiseSp (call_area locals) ∷ ReturnTo back ∷ []
+
+  abbrev pub leave_block : Operand → List Operand → ℕ → Block
+  leave_block target arguments first = record {
+    label = first;
+    insts = argument_insts 0 arguments ++ leave_insts target (first + 1);
+    jump = Register Edx;
+  }
+
+  abbrev pub back_block : Name → ℕ → ℕ → Block
+  back_block x back next = falling back (LowerSp (call_area locals) ∷ KeepAnswer (slot locals x.bytes) ∷ []) next
+
+  abbrev pub call_blocks : Name → Operand → List Operand → ℕ → ℕ → List Block
+  call_blocks x target arguments first next = leave_block target arguments first ∷ back_block x (first + 1) next ∷ []
 
 -- no statement, or a hint: a block of its own with no bytes, since control comes to a label
 abbrev pub empty_block : ℕ → ℕ → Block
