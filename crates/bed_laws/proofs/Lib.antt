@@ -8,3 +8,5 @@ pub mod LoopLaws
 pub mod ChoiceLaws
 pub mod StatementLaws
 pub mod CallLaws
+pub mod FitLaws
+pub mod LayLaws

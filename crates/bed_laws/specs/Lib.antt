@@ -3,3 +3,4 @@ pub mod Described
 pub mod Keeps
 pub mod Spans
 pub mod StatementBlocks
+pub mod Lays
