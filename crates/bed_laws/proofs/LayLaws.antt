@@ -141,12 +141,12 @@ module _ (locals : List Name) where
 
   -- ---- one block
 
-  fetch_size : (o : Operand) → inst_size (Fetch First (value_of locals o)) ≡ table.operand_size o
+  pub fetch_size : (o : Operand) → inst_size (Fetch First (value_of locals o)) ≡ table.operand_size o
   fetch_size (operand.Number n) = refl
   fetch_size (operand.Local x) = refl
   fetch_size (operand.Label f) = refl
 
-  fetch_size2 : (o : Operand) → inst_size (Fetch Second (value_of locals o)) ≡ table.operand_size o
+  pub fetch_size2 : (o : Operand) → inst_size (Fetch Second (value_of locals o)) ≡ table.operand_size o
   fetch_size2 (operand.Number n) = refl
   fetch_size2 (operand.Local x) = refl
   fetch_size2 (operand.Label f) = refl

@@ -10,3 +10,4 @@ pub mod StatementLaws
 pub mod CallLaws
 pub mod FitLaws
 pub mod LayLaws
+pub mod CallLays
