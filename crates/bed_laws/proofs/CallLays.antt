@@ -120,7 +120,7 @@ module _ (locals : List Name) where
 
     fits : Fit blocks (Some next)
     fits =
-        fit_of L blocks (Some next) has_back
+        fit_of L blocks (Some next) (λ l is. inl (has_back l is))
         (fit_append L (leaving ∷ []) (coming ∷ []) [] [] first (first + 1) (first + 1 + 1) (Some next) span_call span_back refl (some_is (one_block coming))
         (one_in L leaving (Some (first + 1)) (λ l is. inr (named_back l is)) tt (ap length (backs_are 0 os target (first + 1))))
         (one_in L coming (Some next) (λ l is. inl (ap Some (only_one is))) refl tt))

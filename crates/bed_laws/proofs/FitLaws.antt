@@ -64,13 +64,13 @@ module _ (L : ℕ → Type 0) where
   pub fit_in : (B : List Block) (after : Option ℕ) → Fit B after → FitIn L B after
   fit_in B after f = record { distinct = f.distinct; named = λ l is. in_named B after l (f.named l is); go_on = f.go_on; leave = f.leave }
 
-  of_named : (B : List Block) (after : Option ℕ) → ((l : ℕ) → L l → IsSome (block_at B l)) → (l : ℕ) → IsSome (block_at B l) ⊎ ((after ≡ Some l) ⊎ L l) → IsSome (block_at B l) ⊎ (after ≡ Some l)
+  of_named : (B : List Block) (after : Option ℕ) → ((l : ℕ) → L l → IsSome (block_at B l) ⊎ (after ≡ Some l)) → (l : ℕ) → IsSome (block_at B l) ⊎ ((after ≡ Some l) ⊎ L l) → IsSome (block_at B l) ⊎ (after ≡ Some l)
   of_named B after has l (inl is) = inl is
   of_named B after has l (inr (inl e)) = inr e
-  of_named B after has l (inr (inr is)) = inl (has l is)
+  of_named B after has l (inr (inr is)) = has l is
 
-  -- where the labels are theirs after all, they fit
-  pub fit_of : (B : List Block) (after : Option ℕ) → ((l : ℕ) → L l → IsSome (block_at B l)) → FitIn L B after → Fit B after
+  -- where the labels are theirs after all, or that of what stands behind them, they fit
+  pub fit_of : (B : List Block) (after : Option ℕ) → ((l : ℕ) → L l → IsSome (block_at B l) ⊎ (after ≡ Some l)) → FitIn L B after → Fit B after
   fit_of B after has f = record { distinct = f.distinct; named = λ l is. of_named B after has l (f.named l is); go_on = f.go_on; leave = f.leave }
 
   -- ---- one block
@@ -118,10 +118,10 @@ go_on_append : (B C : List Block) (after : Option ℕ) (mid : ℕ) → first_lab
 go_on_append [] C after mid e gb gc = gc
 go_on_append (b ∷ B) C after mid e gb gc = (subst (GoesOn b.jump) (sym (first_append B C after mid e)) gb.0, go_on_append B C after mid e gb.1 gc)
 
-some_left : (B C : List Block) (l : ℕ) → IsSome (block_at B l) → IsSome (block_at (B ++ C) l)
+pub some_left : (B C : List Block) (l : ℕ) → IsSome (block_at B l) → IsSome (block_at (B ++ C) l)
 some_left B C l is = let r = is_some_is _ is in some_is (append_front B C l r.0 r.1)
 
-some_right : (B C : List Block) (l : ℕ) → IsSome (block_at C l) → IsSome (block_at (B ++ C) l)
+pub some_right : (B C : List Block) (l : ℕ) → IsSome (block_at C l) → IsSome (block_at (B ++ C) l)
 some_right B C l is = elim (some_or_none (block_at B l)) [
   | inl none ↦ (let r = is_some_is _ is in some_is (append_back B C l r.0 none r.1))
   | inr some ↦ some_is (append_front B C l some.0 some.1)

@@ -11,3 +11,4 @@ pub mod CallLaws
 pub mod FitLaws
 pub mod LayLaws
 pub mod CallLays
+pub mod ControlLays
