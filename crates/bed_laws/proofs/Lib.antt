@@ -12,3 +12,4 @@ pub mod FitLaws
 pub mod LayLaws
 pub mod CallLays
 pub mod ControlLays
+pub mod StatementsLaws

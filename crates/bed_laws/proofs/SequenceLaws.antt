@@ -127,3 +127,12 @@ module _ (w : World) (c : FunctionSite) (places : ℕ → ℕ) where
           t (lc.keeps vc sure a t q m))
           s (lb.keeps vb (lc.sure vc sure) a s reach n);
     }
+
+    -- where no path comes to the second list
+    pub dead_law : (cb : List Cond) (from : Path) → Law w c places B hb lo mid cb from None → Law w c places (B ++ C) (hb ++ hc) lo next (cb ++ []) from None
+    dead_law cb from lb = record {
+      sure = λ valid sure. lb.sure (valid_left cb [] valid) tt;
+      keeps = λ valid sure a s reach n.
+          link w c places a B hb (B ++ C) (hb ++ hc) (among_front B C hb hc lo mid hi le le2 sb sc) (Reaches w c mid None a) (Reaches w c next None a) n
+          (λ m less t q. absurd q) s (lb.keeps (valid_left cb [] valid) tt a s reach n);
+    }

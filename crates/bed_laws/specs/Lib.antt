@@ -4,3 +4,4 @@ pub mod Keeps
 pub mod Spans
 pub mod StatementBlocks
 pub mod Lays
+pub mod Statements
