@@ -71,7 +71,7 @@ module _ (locals : List Name) where
 
   module _ (t : Test) (I : Assertion) (p : Piece) where
     -- a loop whose body comes to its end where f is true
-    abbrev loop_piece : Bool → Piece
+    abbrev pub loop_piece : Bool → Piece
     loop_piece f = record {
       falls = true;
       size = table.test_size t + (p.size + table.jump_size f);
@@ -206,7 +206,7 @@ module _ (locals : List Name) where
 
   module _ (t : Test) (py pn : Piece) where
     -- a choice whose first body comes to its end where f is true
-    abbrev choice_piece : Bool → Piece
+    abbrev pub choice_piece : Bool → Piece
     choice_piece f = record {
       falls = f || pn.falls;
       size = table.test_size t + (py.size + (table.jump_size f + pn.size));

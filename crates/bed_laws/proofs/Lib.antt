@@ -13,3 +13,4 @@ pub mod LayLaws
 pub mod CallLays
 pub mod ControlLays
 pub mod StatementsLaws
+pub mod ControlStatements

@@ -1,5 +1,5 @@
 -- The blocks of statements: each row of the code table in the instructions of blocks.
-use Rattle.std.specs.Prelude.{ℕ, ◌+◌, ◌*◌, List, [], ◌∷◌, ◌++◌}
+use Rattle.std.specs.Prelude.{ℕ, ◌+◌, ◌*◌, Bool, true, false, if◌then◌else◌, List, [], ◌∷◌, ◌++◌}
 use Rattle.bed_lang.specs.Numbers.{wrap}
 use Rattle.bed_lang.specs.declared.word.Name.{Name}
 use Rattle.bed_lang.specs.declared.module.Operand.{Operand}
@@ -107,3 +107,25 @@ module _ (locals : List Name) where
 -- no statement, or a hint: a block of its own with no bytes, since control comes to a label
 abbrev pub empty_block : ℕ → ℕ → Block
 empty_block first next = falling first [] next
+
+-- how many labels a jump has that is there only where control comes to it
+abbrev pub jump_count : Bool → ℕ
+jump_count falls = if falls then 1 else 0
+
+-- that jump, as a block
+abbrev pub going_if : Bool → ℕ → ℕ → List Block
+going_if falls label to = if falls then (going label to ∷ []) else []
+
+-- while t { body }, where the body's blocks have n labels, from a first label on, to a next one: the test, the body, and the jump back
+-- where control comes to the body's end
+abbrev pub loop_blocks : Bool → List Name → Test → ℕ → ℕ → ℕ → (ℕ → ℕ → List Block) → List Block
+loop_blocks falls locals t n first next body =
+    test_block locals t first (first + 1) next
+    ∷ (body (first + 1) (if falls then first + 1 + n else next) ++ going_if falls (first + 1 + n) first)
+
+-- if t { yes } else { no }, where the first body's blocks have n labels: the test, the first body, the jump over the second where control
+-- comes to the end of the first, and the second
+abbrev pub choice_blocks : Bool → List Name → Test → ℕ → ℕ → ℕ → (ℕ → ℕ → List Block) → (ℕ → ℕ → List Block) → List Block
+choice_blocks falls locals t n first next yes_part no_part =
+    test_block locals t first (first + 1) (first + 1 + n + jump_count falls)
+    ∷ (yes_part (first + 1) (first + 1 + n) ++ (going_if falls (first + 1 + n) next ++ no_part (first + 1 + n + jump_count falls) next))
