@@ -14,3 +14,4 @@ pub mod CallLays
 pub mod ControlLays
 pub mod StatementsLaws
 pub mod ControlStatements
+pub mod CountLaws

@@ -5,3 +5,4 @@ pub mod Spans
 pub mod StatementBlocks
 pub mod Lays
 pub mod Statements
+pub mod Counts
