@@ -15,3 +15,4 @@ pub mod ControlLays
 pub mod StatementsLaws
 pub mod ControlStatements
 pub mod CountLaws
+pub mod MacroLaws
