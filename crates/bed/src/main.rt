@@ -52,6 +52,3 @@ fn main(rt: HostRuntime) -> ExitCode {
         Err(AllocError) => ExitCode::from(want_of_memory(&rt)),
     }
 }
-
-#[cfg(test)]
-mod tests;

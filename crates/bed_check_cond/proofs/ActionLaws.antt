@@ -22,7 +22,9 @@ use Rattle.bed_deriv.specs.declared.derivation.DArg.{DArg}
 use Rattle.bed_deriv.specs.declared.state.SymState.{SymState}
 use Rattle.bed_deriv.specs.Arguments.{numbered, number_at}
 use Rattle.bed_deriv.specs.HeapRules.{cell_of, byte_of, fresh_word}
-use Rattle.bed_deriv.specs.Steps.{Rest, Onward, operand_term, place_term, relation, with_result, computed, assign, compute, load, store, flag_children, stored_byte, store_byte, assume, act}
+use Rattle.bed_deriv.specs.Steps.{operand_term, place_term, relation, with_result, computed, assign, compute, load, store, flag_children, stored_byte, store_byte, assume, act}
+use Rattle.bed_deriv.specs.declared.rest.Rest.{Rest}
+use Rattle.bed_deriv.specs.declared.rest.Onward.{Onward}
 use Rattle.bed_deriv.specs.Fresh.{IsKnownState}
 use Rattle.bed_check_pure.specs.States.{StateHolds}
 use Rattle.bed_check_pure.proofs.RuleLaws.{counted, holds_with, numbered_at}

@@ -14,7 +14,7 @@ use Rattle.bed_lang.proofs.ValueLaws.{value-Number, value-Add, value-Sub}
 use Rattle.bed_forms.proofs.FormValues.{times-form_value, form-value}
 use Rattle.bed_sat.specs.Valid.{op_result}
 use Rattle.bed_lang.specs.SameFacts.{is_constant}
-use Rattle.bed_deriv.specs.Rebuilt.{form_word, rebuilt_word}
+use Rattle.bed_forms.specs.Rebuilt.{form_word, rebuilt_word}
 use Rattle.bed_deriv.specs.Steps.{product_of, bits_of, computed}
 use Rattle.bed_check_pure.proofs.SameLaws.{constant_word-value}
 use Rattle.bed_check_pure.proofs.RebuiltLaws.{form_word-value}

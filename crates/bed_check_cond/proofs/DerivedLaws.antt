@@ -22,11 +22,15 @@ use Rattle.bed_deriv.specs.declared.state.SymState.{SymState}
 use Rattle.bed_deriv.specs.declared.state.Sequent.{Sequent}
 use Rattle.bed_deriv.specs.declared.state.Remainder.{Remainder}
 use Rattle.bed_deriv.specs.Checks.{first_failure, outcome, remainder}
-use Rattle.bed_deriv.specs.Derives.{Purpose, ForFacts, ForStates, ForSteps, ForEnds, purpose, pure_rule, heap_rule, fact_table, Task, Proves, refused, facts_to_prove, proofs, from_states, states_to_close, rests_to_close, by_purpose, rules, whole, Derives}
-use Rattle.bed_deriv.specs.Derives as task
+use Rattle.bed_deriv.specs.Derives.{Purpose, ForFacts, ForStates, ForSteps, ForEnds, purpose, pure_rule, heap_rule, fact_table, refused, facts_to_prove, proofs, from_states, states_to_close, rests_to_close, by_purpose, rules, whole, Derives}
+use Rattle.bed_deriv.specs.declared.rest.Task.{Task}
+use Rattle.bed_deriv.specs.declared.rest.Task.TheVariants.{Proves}
+use Rattle.bed_deriv.specs.declared.rest.Task.TheVariants as task
 use Rattle.bed_deriv.specs.Fresh.{known_assertion, unfresh_goal, AreUnfresh}
 use Rattle.bed_deriv.specs.HeapRules.{claim, case_split, never, unfold_rule, fold_rule, append_rule, divide, merge, shape}
-use Rattle.bed_deriv.specs.Steps.{Rest, Onward, step, step_along, step_of_goal, finish, onward_of, onward_states}
+use Rattle.bed_deriv.specs.Steps.{step, step_along, step_of_goal, finish, onward_of, onward_states}
+use Rattle.bed_deriv.specs.declared.rest.Rest.{Rest}
+use Rattle.bed_deriv.specs.declared.rest.Onward.{Onward}
 use Rattle.bed_deriv.specs.Walk.{walk}
 use Rattle.bed_deriv.proofs.StartLaws.{started-known}
 use Rattle.bed_check_pure.specs.Sound.{FollowsAt, AllFollowAt}
@@ -45,7 +49,8 @@ use Rattle.bed_check_cond.proofs.ReadLaws.{reads_known}
 use Rattle.bed_check_cond.proofs.EndLaws.{IsKnownRest, ClosesBy, finish_by}
 use Rattle.bed_check_cond.proofs.ActionLaws.{action_closes}
 use Rattle.bed_check_cond.proofs.CallLaws.{call_closes}
-use Rattle.bed_check_cond.proofs.GrownLaws.{AllGrown, rule_grown}
+use Rattle.bed_check_cond.proofs.GrownLaws.{rule_grown}
+use Rattle.bed_check_cond.specs.States.{AllGrown}
 use Rattle.bed_check_cond.proofs.RestLaws.{AllKnown, step_known}
 use Rattle.bed_check_cond.proofs.BeginLaws.{condition_opens}
 

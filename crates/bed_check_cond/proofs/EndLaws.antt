@@ -32,7 +32,9 @@ use Rattle.bed_deriv.specs.Matches.{count_of_goals, count_of_atoms, chosen, all_
 use Rattle.bed_deriv.specs.Opening.{replacing, with_answer, local_values}
 use Rattle.bed_lang.specs.SameFacts.{is_none}
 use Rattle.bed_deriv.specs.Checks.{first_failure}
-use Rattle.bed_deriv.specs.Steps.{Rest, Onward, operand_term, names_with, old_word, End, as_answer, returned, met, end_of, finish, onward_of, onward_states}
+use Rattle.bed_deriv.specs.Steps.{operand_term, names_with, old_word, End, as_answer, returned, met, end_of, finish, onward_of, onward_states}
+use Rattle.bed_deriv.specs.declared.rest.Rest.{Rest}
+use Rattle.bed_deriv.specs.declared.rest.Onward.{Onward}
 use Rattle.bed_check_pure.specs.States.{AreTrueFacts, AreTrueAtoms}
 use Rattle.bed_check_pure.proofs.SameLaws.{empty_if_none}
 use Rattle.bed_check_pure.proofs.CheckLaws.{roomy}

@@ -1,4 +1,4 @@
--- A word that is written anew from its normal form has no other fresh variables.
+-- A word or sequence that is written anew from its normal form has no other fresh variables.
 use Rattle.std.proofs.Common.{◌≡◌, ℕ, zero, suc, ◌+◌, ◌*◌, Bool, true, false, ◌&&◌, ◌==◌, IsTrue, if◌then◌else◌, List, [], ◌∷◌, Option, Some, None, refl, sym, ◌∙◌, subst}
 use Rattle.std.proofs.lemmas.Bool.{and_parts, and_from}
 use Rattle.std.specs.declared.cmp.Ordering.{Ordering}
@@ -9,6 +9,10 @@ use Rattle.bed_lang.specs.declared.word.Var.{Var}
 use Rattle.bed_lang.specs.declared.word.Var.TheVariants as var
 use Rattle.bed_lang.specs.declared.word.Word.{Word, Number, Times, Add, Sub, roll-Word, map-Word, ind-Word, fold-roll-Word}
 use Rattle.bed_lang.specs.declared.word.Word.TheOpen.{Word-F}
+use Rattle.bed_lang.specs.declared.word.Seq.{Seq, Var as SeqVar, roll-Seq, map-Seq, ind-Seq, fold-roll-Seq}
+use Rattle.bed_lang.specs.declared.word.Seq.TheOpen.{Seq-F}
+use Rattle.bed_lang.specs.declared.form.Piece.{Piece}
+use Rattle.bed_lang.specs.declared.form.Piece.TheVariants.{Element, Sequence}
 use Rattle.bed_lang.specs.declared.form.Key.{Key}
 use Rattle.bed_lang.specs.declared.form.Key.TheVariants as key
 use Rattle.bed_lang.specs.declared.form.Form.{Form}
@@ -16,12 +20,12 @@ use Rattle.bed_lang.specs.declared.module.Op.{Op}
 use Rattle.bed_lang.specs.declared.module.Op.TheVariants as op
 use Rattle.bed_lang.specs.Keys.{bare_var, key_order}
 use Rattle.bed_lang.specs.Numbers.{wrap}
-use Rattle.bed_lang.specs.Forms.{Part, part_before, by_order, with_part, add_parts, times_parts, times_form, form_step, word_form}
-use Rattle.bed_deriv.specs.Fresh.{every, known_var, known_word_step, known_word}
-use Rattle.bed_deriv.specs.Rebuilt.{key_word, part_word, sum_from, parts_word, form_word, rebuilt_word}
+use Rattle.bed_lang.specs.Forms.{Part, part_before, by_order, with_part, add_parts, times_parts, times_form, form_step, word_form, piece_step, seq_form}
+use Rattle.bed_deriv.specs.Fresh.{every, known_var, known_word_step, known_word, known_seq_step, known_seq}
+use Rattle.bed_forms.specs.Rebuilt.{key_word, part_word, sum_from, parts_word, form_word, pieces_seq, rebuilt_word, rebuilt_seq}
 use Rattle.bed_lang.specs.SameFacts.{is_constant}
 use Rattle.bed_deriv.specs.Steps.{product_of, bits_of, computed}
-use Rattle.bed_deriv.proofs.KnownLaws.{known-Number, known-Var, known-Label, known-Add, known-Sub, known-Times}
+use Rattle.bed_deriv.proofs.KnownLaws.{every-append, known-Number, known-Var, known-Label, known-Add, known-Sub, known-Times, known_seq-Var, known_seq-Nil, known_seq-Cons, known_seq-App}
 
 module _ (next : ℕ) where
   abbrev known_key : Key → Bool
@@ -122,8 +126,52 @@ module _ (next : ℕ) where
       by true = parts_known f.parts k
       by false = sum_known (Number f.constant) f.parts (known-Number next f.constant) k
 
-  rebuilt_known : (w : Word) → IsTrue (known_word next w) → IsTrue (known_word next (rebuilt_word w))
+  pub rebuilt_known : (w : Word) → IsTrue (known_word next w) → IsTrue (known_word next (rebuilt_word w))
   rebuilt_known w k = form_word_known (word_form w) (form_known w k)
+
+  -- ---- sequences
+
+  abbrev known_piece : Piece → Bool
+  known_piece (Element f) = every known_part f.parts
+  known_piece (Sequence x) = known_var next x
+
+  abbrev KnownPieces : List Piece → Type 0
+  KnownPieces ps = IsTrue (every known_piece ps)
+
+  abbrev PiecesKnown : Seq → Type 0
+  PiecesKnown s = IsTrue (known_seq next s) → KnownPieces (seq_form s)
+
+  of_seq : (x : Seq-F Seq) → IsTrue (known_seq next (roll-Seq x)) → IsTrue (known_seq_step next (map-Seq Seq Bool (known_seq next) x))
+  of_seq x k = sym (fold-roll-Seq Bool (known_seq_step next) x) ∙ k
+
+  piece_layer : (y : Seq-F ((s : Seq) × PiecesKnown s)) → IsTrue (known_seq_step next (map-Seq _ _ (known_seq next) (map-Seq _ _ (λ p. p.0) y))) → KnownPieces (piece_step (map-Seq _ _ seq_form (map-Seq _ _ (λ p. p.0) y)))
+  piece_layer (Seq-F.Var x) k = and_from (known_var next (bare_var x)) true (bare_known x k) refl
+  piece_layer Seq-F.Nil k = refl
+  piece_layer (Seq-F.Cons a s) k =
+      let q = and_parts (known_word next a) (known_seq next s.0) k in
+      and_from (every known_part (word_form a).parts) (every known_piece (seq_form s.0)) (form_known a q.0) (s.1 q.1)
+  piece_layer (Seq-F.App s t) k =
+      let q = and_parts (known_seq next s.0) (known_seq next t.0) k in every-append known_piece (seq_form s.0) (seq_form t.0) (s.1 q.0) (t.1 q.1)
+
+  pieces_known : (s : Seq) → PiecesKnown s
+  pieces_known = ind-Seq PiecesKnown (λ x y is. subst (λ (z : Seq-F Seq). PiecesKnown (roll-Seq z)) is
+      (λ k. subst KnownPieces (sym (fold-roll-Seq (List Piece) piece_step (map-Seq _ _ (λ p. p.0) y))) (piece_layer y (of_seq (map-Seq _ _ (λ p. p.0) y) k))))
+
+  pieces_seq_known : (ps : List Piece) → KnownPieces ps → IsTrue (known_seq next (pieces_seq ps))
+  pieces_seq_known [] k = known_seq-Nil next
+  pieces_seq_known (Element f ∷ ps) k =
+      let q = and_parts (known_piece (Element f)) (every known_piece ps) k in
+      known_seq-Cons next (form_word f) (pieces_seq ps)
+      ∙ and_from (known_word next (form_word f)) (known_seq next (pieces_seq ps)) (form_word_known f q.0) (pieces_seq_known ps q.1)
+  pieces_seq_known (Sequence x ∷ ps) k =
+      let q = and_parts (known_piece (Sequence x)) (every known_piece ps) k in
+      known_seq-App next (SeqVar x) (pieces_seq ps)
+      ∙ and_from (known_seq next (SeqVar x)) (known_seq next (pieces_seq ps)) (known_seq-Var next x ∙ q.0) (pieces_seq_known ps q.1)
+
+  pub rebuilt_seq_known : (s : Seq) → IsTrue (known_seq next s) → IsTrue (known_seq next (rebuilt_seq s))
+  rebuilt_seq_known s k = pieces_seq_known (seq_form s) (pieces_known s k)
+
+  -- ---- what a step computes
 
   times_form_known : (n : ℕ) (b t : Word) → IsTrue (known_word next b) → ◌≡◌ {A = Option Word} (Some (form_word (times_form n (word_form b)))) (Some t) → IsTrue (known_word next t)
   times_form_known n b t k e = subst (λ z. IsTrue (known_word next z)) (some_same e) (form_word_known (times_form n (word_form b)) (times_known n (word_form b).parts (form_known b k)))

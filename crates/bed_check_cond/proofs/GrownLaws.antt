@@ -1,5 +1,5 @@
 -- The states that a rule leaves are known again, have the same locals, and no smaller next number.
-use Rattle.std.proofs.Common.{◌≡◌, ℕ, zero, suc, ◌+◌, ◌-◌, ◌<◌, ◌≤◌, nat_le, Bool, true, false, IsTrue, if◌then◌else◌, List, [], ◌∷◌, ◌++◌, length, take, drop, Option, Some, None, Ok, refl, sym, ◌∙◌, subst, arith}
+use Rattle.std.proofs.Common.{◌≡◌, ℕ, zero, suc, ◌+◌, ◌-◌, ◌<◌, ◌≤◌, nat_le, Bool, true, false, IsTrue, if◌then◌else◌, List, [], ◌∷◌, ◌++◌, map, length, take, drop, Option, Some, None, Ok, refl, sym, ◌∙◌, subst, arith}
 use Rattle.std.specs.Prelude.{slice_get, bytes_eq}
 use Rattle.std.proofs.lemmas.Bool.{and_parts, and_from}
 use Rattle.std.proofs.Math.Seq.{take-nil, drop-nil}
@@ -33,7 +33,8 @@ use Rattle.bed_deriv.specs.Derives.{heap_rule}
 use Rattle.bed_deriv.specs.Fresh.{every, known_word, known_seq, known_arg, known_pure, known_atom, known_local, known_value, known_assertion, unfresh_predicate, IsKnownState, AreUnfresh}
 use Rattle.bed_deriv.specs.HeapRules.{without, taken, both_taken, with_atom, claim, case_split, never, params_with, with_args, declared, cases_opened, unfold_rule, value_args, fold_rule, Segment, segment_args, segment, joined_segment, append_rule, block_of, divide, merge, cell_of, byte_of, fresh_word, four_bytes, cell_to_bytes, four_chosen, bytes_to_cell, block_to_cell, cell_to_block, drop_block, Shape, CellToBytes, BytesToCell, BlockToCell, CellToBlock, DropBlock, shape_of, shape}
 use Rattle.bed_deriv.specs.Matches.{atoms_left}
-use Rattle.bed_deriv.specs.Opening.{alone, fresh_values, facts_of, atoms_of, opened}
+use Rattle.bed_lang.specs.declared.logic.Term.{Term}
+use Rattle.bed_deriv.specs.Opening.{alone, replaced_term, fresh_values, facts_of, atoms_of, with_terms, opened, opened_anew}
 use Rattle.bed_deriv.proofs.StartLaws.{below, binders-known}
 use Rattle.bed_deriv.proofs.KnownLaws.{IsKnownInstance, alone-known, facts-opened, atoms-opened, known-Number, known-Var, known-Add, known-Sub, known-Times, known_seq-App, every-append}
 use Rattle.bed_check_pure.proofs.CheckLaws.{roomy}
@@ -41,19 +42,11 @@ use Rattle.bed_check_pure.proofs.RuleLaws.{numbered_is}
 use Rattle.bed_check_heap.proofs.FreshLaws.{every_taken}
 use Rattle.bed_check_heap.proofs.KeepLaws.{Every, passed}
 use Rattle.bed_check_heap.proofs.TakeLaws.{both_facts, AreNumbered, chosen_numbered}
+use Rattle.bed_check_cond.specs.States.{Grown, AllGrown}
+use Rattle.bed_check_cond.proofs.AnewLemmas.{facts-anew, atoms-anew}
 use Rattle.bed_check_cond.proofs.DeclaredLaws.{found_passes}
 use Rattle.bed_check_cond.proofs.KnownLaws.{word_given, fact_is_known, values_known, left_known}
 use Rattle.bed_check_cond.proofs.MoreLaws.{more_word, facts_more, atoms_more, locals_more, values_more}
-
--- a state that comes from another
-pub record Grown (s t : SymState) : Type 0 where
-  pub locals : t.locals ≡ s.locals
-  pub next : s.next ≤ t.next
-  pub known : IsKnownState t
-
-abbrev pub AllGrown : SymState → List SymState → Type 0
-AllGrown s [] = Unit {0}
-AllGrown s (t ∷ ts) = Grown s t × AllGrown s ts
 
 one : {A : Type 0} (f : A → Bool) (x : A) → IsTrue (f x) → IsTrue (every f (x ∷ []))
 one f x k = and_from (f x) true k refl
@@ -130,22 +123,34 @@ both_same s i j = by (nat_le i j)
 
 -- ---- predicates
 
+-- a state with further terms, and more fresh variables
+terms_grown : (s : SymState) (known : IsKnownState s) (m : ℕ) → s.next ≤ m → (ts : List Term) → IsTrue (every (known_pure m) (facts_of ts))
+    → IsTrue (every (known_atom m) (atoms_of ts)) → Grown s (with_terms (record s { next = m }) ts)
+terms_grown s known m le ts facts atoms = record {
+  locals = refl;
+  next = le;
+  known = record {
+    locals = locals_more s.next m le s.locals known.locals;
+    facts = every-append (known_pure m) s.facts (facts_of ts) (facts_more s.next m le s.facts known.facts) facts;
+    atoms = every-append (known_atom m) s.atoms (atoms_of ts) (atoms_more s.next m le s.atoms known.atoms) atoms;
+  };
+}
+
 -- a state with an opened assertion
 pub opened_grown : (s : SymState) (known : IsKnownState s) (σ : List (Name × Arg) → Instance) (vs : List (Name × Arg)) (A : Assertion) → IsTrue (known_assertion 0 A)
     → IsKnownInstance (s.next + length A.binders) (σ (vs ++ fresh_values A.binders s.next)) → Grown s (opened σ vs A s)
 opened_grown s known σ vs A unfresh given =
     let m = s.next + length A.binders in
-    let le : s.next ≤ m = omega arith in
-    let ts = terms_with (σ (vs ++ fresh_values A.binders s.next)) A.terms in
-    record {
-      locals = refl;
-      next = le;
-      known = record {
-        locals = locals_more s.next m le s.locals known.locals;
-        facts = every-append (known_pure m) s.facts (facts_of ts) (facts_more s.next m le s.facts known.facts) (facts-opened m (σ (vs ++ fresh_values A.binders s.next)) given A.terms unfresh);
-        atoms = every-append (known_atom m) s.atoms (atoms_of ts) (atoms_more s.next m le s.atoms known.atoms) (atoms-opened m (σ (vs ++ fresh_values A.binders s.next)) given A.terms unfresh);
-      };
-    }
+    let τ = σ (vs ++ fresh_values A.binders s.next) in
+    terms_grown s known m (omega arith) (terms_with τ A.terms) (facts-opened m τ given A.terms unfresh) (atoms-opened m τ given A.terms unfresh)
+
+-- the same, with terms written anew
+anew_grown : (s : SymState) (known : IsKnownState s) (σ : List (Name × Arg) → Instance) (vs : List (Name × Arg)) (A : Assertion) → IsTrue (known_assertion 0 A)
+    → IsKnownInstance (s.next + length A.binders) (σ (vs ++ fresh_values A.binders s.next)) → Grown s (opened_anew σ vs A s)
+anew_grown s known σ vs A unfresh given =
+    let m = s.next + length A.binders in
+    let τ = σ (vs ++ fresh_values A.binders s.next) in
+    terms_grown s known m (omega arith) (map (replaced_term τ) A.terms) (facts-anew m τ given A.terms unfresh) (atoms-anew m τ given A.terms unfresh)
 
 params_known : (next : ℕ) (bs : List Bind) (args : List Arg) → IsTrue (every (known_arg next) args) → IsTrue (every (known_value next) (params_with bs args))
 params_known next [] args k = refl
@@ -188,7 +193,7 @@ module _ (d : Decls) (unfresh : AreUnfresh d) (s : SymState) (known : IsKnownSta
       let le : s.next ≤ m = omega arith in
       let all : IsTrue (every (known_value m) (vs ++ fresh_values A.binders s.next)) =
       every-append (known_value m) vs (fresh_values A.binders s.next) (values_more s.next m le vs given) (binders-known A.binders s.next m (omega arith)) in
-      let g = opened_grown (taken s i) (taken_known i) alone vs A q.0 (alone-known m (vs ++ fresh_values A.binders s.next) all) in
+      let g = anew_grown (taken s i) (taken_known i) alone vs A q.0 (alone-known m (vs ++ fresh_values A.binders s.next) all) in
       (record { locals = g.locals; next = g.next; known = g.known }, cases_grown i vs cases given q.1)
 
   unfold_grown : (args : List DArg) (n : ℕ) → Every Leaves (unfold_rule d s args n)

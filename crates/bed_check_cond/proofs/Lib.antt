@@ -1,17 +1,19 @@
-pub mod ValueLaws
-pub mod ReplacingLaws
-pub mod ReadLaws
-pub mod OpeningLaws
-pub mod DeclaredLaws
-pub mod EndLaws
-pub mod ComputeLaws
-pub mod StoreLaws
-pub mod ActionLaws
-pub mod KnownLaws
-pub mod CallLaws
-pub mod MoreLaws
-pub mod GrownLaws
-pub mod FormKnownLaws
-pub mod RestLaws
-pub mod BeginLaws
-pub mod DerivedLaws
+mod ValueLaws
+mod ReplacingLaws
+mod ReadLaws
+mod OpeningLaws
+mod DeclaredLaws
+mod EndLaws
+mod ComputeLaws
+mod StoreLaws
+mod ActionLaws
+mod KnownLaws
+mod CallLaws
+mod MoreLaws
+mod FormKnownLaws
+mod AnewLemmas
+mod GrownLaws
+mod ChainLemmas
+mod RestLaws
+mod BeginLaws
+mod DerivedLaws

@@ -32,7 +32,9 @@ use Rattle.bed_deriv.specs.HeapRules.{fresh_word}
 use Rattle.bed_deriv.specs.Matches.{atoms_left}
 use Rattle.bed_deriv.specs.Opening.{replacing, with_answer, fresh_values}
 use Rattle.bed_deriv.specs.Steps as steps
-use Rattle.bed_deriv.specs.Steps.{Rest, Onward, operand_term, with_term, with_local, with_result, relation, put_at, with_atom_at, assign, compute, computed, load, store, stored_byte, store_byte, assume, act, names_with, callee, call, step_of_goal, step_along}
+use Rattle.bed_deriv.specs.Steps.{operand_term, with_term, with_local, with_result, relation, put_at, with_atom_at, assign, compute, computed, load, store, stored_byte, store_byte, assume, act, names_with, callee, call, step_of_goal, step_along}
+use Rattle.bed_deriv.specs.declared.rest.Rest.{Rest}
+use Rattle.bed_deriv.specs.declared.rest.Onward.{Onward}
 use Rattle.bed_deriv.proofs.StartLaws.{below, binders-known}
 use Rattle.bed_deriv.proofs.KnownLaws.{known-Var, replacing-known, answer-known, every-append}
 use Rattle.bed_check_pure.proofs.RuleLaws.{numbered_at}

@@ -17,7 +17,9 @@ use Rattle.bed_deriv.specs.declared.derivation.DArg.{DArg}
 use Rattle.bed_deriv.specs.declared.derivation.Deriv.{Deriv}
 use Rattle.bed_deriv.specs.declared.state.SymState.{SymState}
 use Rattle.bed_deriv.specs.Fresh.{IsKnownState, AreUnfresh, unfresh_goal, unfresh_condition, condition_size}
-use Rattle.bed_deriv.specs.Steps.{Rest, Onward, step, finish, onward_of}
+use Rattle.bed_deriv.specs.Steps.{step, finish, onward_of}
+use Rattle.bed_deriv.specs.declared.rest.Rest.{Rest}
+use Rattle.bed_deriv.specs.declared.rest.Onward.{Onward}
 use Rattle.bed_deriv.specs.Derives.{Derives}
 use Rattle.bed_check_pure.specs.States.{StateHolds, AreTrueFacts}
 

@@ -13,11 +13,7 @@ pub mod UnfoldLaws
 pub mod FoldLaws
 pub mod SegmentLaws
 pub mod AppendLaws
-pub mod PrefixLaws
 pub mod WithoutLaws
 pub mod AnswerLaws
 pub mod RoomLaws
-pub mod CountLaws
-pub mod LeftLaws
-pub mod RefusalLaws
 pub mod ExampleLaws

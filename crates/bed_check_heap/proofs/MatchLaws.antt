@@ -24,7 +24,7 @@ use Rattle.bed_deriv.specs.declared.state.SymState.{SymState}
 use Rattle.bed_deriv.specs.Matches.{atom_goals, count_of_goals, count_of_atoms, all_different, atoms_left, arg_goal, goal_before, arg_equations, atom_equations, goals_before, match_goals}
 use Rattle.bed_check_pure.specs.States.{AreTrueFacts, AreTrueAtoms}
 use Rattle.bed_check_heap.specs.Sound.{atoms_numbered}
-use Rattle.bed_check_heap.specs.Instances.{Matched, match_terms}
+use Rattle.bed_deriv.specs.Instances.{Matched, match_terms}
 use Rattle.bed_check_heap.proofs.TakeLaws.{atoms_chosen, AreNumbered, chosen_numbered, numbers_are_left, take_chosen}
 use Rattle.bed_check_heap.proofs.KeepLaws.{Every}
 

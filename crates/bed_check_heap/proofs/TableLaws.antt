@@ -5,12 +5,11 @@ use Rattle.bed_lang.specs.Values.{Values}
 use Rattle.bed_sat.specs.Assertions.{World}
 use Rattle.bed_deriv.specs.declared.derivation.DArg.{DArg}
 use Rattle.bed_deriv.specs.declared.derivation.Rule.{Rule}
-use Rattle.bed_deriv.specs.declared.derivation.Rule.TheVariants.{Claim, When, Never, Divide, Merge, Shape, Hyp, Norm, Order, Cut, Carry, Split, Absurd, Distinct, Bound}
+use Rattle.bed_deriv.specs.declared.derivation.Rule.TheVariants.{Claim, When, Never, Divide, Merge, Shape}
 use Rattle.bed_deriv.specs.declared.state.SymState.{SymState}
 use Rattle.bed_deriv.specs.declared.state.Remainder.{Remainder}
-use Rattle.bed_deriv.specs.Checks.{outcome}
-use Rattle.bed_deriv.specs.PureRules.{hyp, norm, order, cut, carry, split, contradiction, distinct, bound}
 use Rattle.bed_deriv.specs.HeapRules.{claim, case_split, never, divide, merge, shape}
+use Rattle.bed_check_pure.specs.Answers.{built_fact_rule}
 use Rattle.bed_check_pure.proofs.RefusalLaws.{never_accepted}
 use Rattle.bed_check_heap.specs.Steps.{built_rule}
 use Rattle.bed_check_heap.specs.Laws.{ClaimKeeps, WhenKeeps, NeverKeeps, DivideKeeps, MergeKeeps, ShapeKeeps}
@@ -26,16 +25,7 @@ built_keeps w ν h s args n m Never e = kept w ν h s n (never args n) (never_ke
 built_keeps w ν h s args n m Divide e = kept w ν h s n (divide s args n) (divide_keeps w ν h s args n) m e
 built_keeps w ν h s args n m Merge e = kept w ν h s n (merge s args n) (merge_keeps w ν h s args n) m e
 built_keeps w ν h s args n m Shape e = kept w ν h s n (shape s args n) (shape_keeps w ν h s args n) m e
-built_keeps w ν h s args n m Hyp e = absurd (never_accepted (outcome (hyp s None args n)) m e)
-built_keeps w ν h s args n m Norm e = absurd (never_accepted (outcome (norm None args n)) m e)
-built_keeps w ν h s args n m Order e = absurd (never_accepted (outcome (order s None args n)) m e)
-built_keeps w ν h s args n m Cut e = absurd (never_accepted (outcome (cut s None args n)) m e)
-built_keeps w ν h s args n m Carry e = absurd (never_accepted (outcome (carry s None args n)) m e)
-built_keeps w ν h s args n m Split e = absurd (never_accepted (outcome (split s None args n)) m e)
-built_keeps w ν h s args n m Absurd e = absurd (never_accepted (outcome (contradiction s None args n)) m e)
-built_keeps w ν h s args n m Distinct e = absurd (never_accepted (outcome (distinct s None args n)) m e)
-built_keeps w ν h s args n m Bound e = absurd (never_accepted (outcome (bound s None args n)) m e)
-built_keeps w ν h s args n m _ e = absurd cc
+built_keeps w ν h s args n m r e = absurd (never_accepted (built_fact_rule w.decls r s None args n) m e)
 
 -- ---- the laws, as the table of rules has them
 

@@ -1,5 +1,5 @@
 -- A predicate's atom is unfolded: one of its cases holds in its place, with values for the fresh variables of its binders.
-use Rattle.std.proofs.Common.{◌≡◌, ℕ, zero, suc, ◌-◌, IsTrue, List, [], ◌∷◌, ◌++◌, length, Option, Some, None, inl, inr, refl, sym, ◌∙◌, ap, subst, arith}
+use Rattle.std.proofs.Common.{◌≡◌, ℕ, zero, suc, ◌-◌, IsTrue, List, [], ◌∷◌, ◌++◌, map, length, Option, Some, None, inl, inr, refl, sym, ◌∙◌, ap, subst, arith}
 use Rattle.std.specs.Prelude.{slice_get}
 use Rattle.std.proofs.lemmas.Bool.{eqb-true}
 use Rattle.bed_machine.specs.Memory.{Memory}
@@ -14,20 +14,20 @@ use Rattle.bed_lang.specs.declared.logic.Term.TheVariants as term
 use Rattle.bed_lang.specs.declared.logic.Assertion.{Assertion}
 use Rattle.bed_lang.specs.declared.module.Predicate.{Predicate}
 use Rattle.bed_lang.specs.Values.{Values}
-use Rattle.bed_lang.specs.Instances.{values_with, terms_with}
+use Rattle.bed_lang.specs.Instances.{values_with}
 use Rattle.bed_lang.specs.Lookups.{predicate_named}
 use Rattle.bed_sat.specs.Parts.{Joins}
 use Rattle.bed_sat.specs.Assertions.{ArgValue, Meaning, blank, set_params, arg_values, IsTrueAtom, AreTrueTerms, IsTrueWith, World, meaning}
 use Rattle.bed_sat.proofs.PartLaws.{joins_comm, joins_empty}
 use Rattle.bed_sat.proofs.SatLaws.{meaning_more}
-use Rattle.bed_sat.proofs.InstanceLaws.{terms_true_with}
 use Rattle.bed_deriv.specs.declared.derivation.DArg.{DArg}
 use Rattle.bed_deriv.specs.declared.state.SymState.{SymState}
 use Rattle.bed_deriv.specs.Fresh.{every, known_arg, known_atom}
-use Rattle.bed_deriv.specs.Opening.{alone, fresh_values, facts_of, atoms_of, opened}
+use Rattle.bed_deriv.specs.Opening.{alone, replaced_term, fresh_values, facts_of, atoms_of, opened_anew}
 use Rattle.bed_deriv.specs.HeapRules.{taken, params_with, with_args, declared, cases_opened, unfold_rule}
 use Rattle.bed_check_pure.specs.States.{AreTrueFacts, AreTrueAtoms, StateHolds}
 use Rattle.bed_check_pure.proofs.RuleLaws.{numbered_is}
+use Rattle.bed_check_pure.proofs.RewrittenLaws.{terms_replaced}
 use Rattle.bed_check_heap.specs.Laws.{UnfoldKeeps}
 use Rattle.bed_check_heap.specs.Sound.{AgreeBelow, SomeHolds}
 use Rattle.bed_check_heap.proofs.TakeLaws.{atoms_append, atoms_more, take_numbered}
@@ -112,7 +112,7 @@ module _ (w : World) (ν : Values) (P : Meaning) (next : ℕ) (h : Memory) where
   pub record Opens (vs : List (Name × Arg)) (A : Assertion) : Type 0 where
     pub values : Values
     pub agree : AgreeBelow next ν values
-    pub terms : AreTrueTerms w.codes w.labels P values (terms_with (alone (vs ++ fresh_values A.binders next)) A.terms) h
+    pub terms : AreTrueTerms w.codes w.labels P values (map (replaced_term (alone (vs ++ fresh_values A.binders next))) A.terms) h
 
   case_opens : (p : Predicate) (args : List Arg) (A : Assertion) → IsTrue (every (known_arg next) args)
       → IsTrueWith w.codes w.labels P (set_params blank p.params (arg_values w.codes w.labels ν args)) A h → Opens (params_with p.params args) A
@@ -132,13 +132,13 @@ module _ (w : World) (ν : Values) (P : Meaning) (next : ℕ) (h : Memory) where
       record {
         values = μ;
         agree = g;
-        terms = (terms_true_with w.codes w.labels (alone (vs ++ fs)) μ P A.terms h).1 (subst (λ ι. AreTrueTerms w.codes w.labels P ι A.terms h) all given);
+        terms = terms_replaced w.codes w.labels (alone (vs ++ fs)) μ P A.terms h (subst (λ ι. AreTrueTerms w.codes w.labels P ι A.terms h) all given);
       }
 
 some_case : (w : World) (next : ℕ) (ν μ : Values) (h : Memory) (s : SymState) (vs : List (Name × Arg)) (cases : List Assertion) (number : ℕ) (A : Assertion)
-    → slice_get cases number ≡ Some A → AgreeBelow next ν μ → StateHolds w μ h (opened alone vs A s) → SomeHolds w next ν h (cases_opened s vs cases)
+    → slice_get cases number ≡ Some A → AgreeBelow next ν μ → StateHolds w μ h (opened_anew alone vs A s) → SomeHolds w next ν h (cases_opened s vs cases)
 some_case w next ν μ h s vs [] number A at g holds = absurd cc
-some_case w next ν μ h s vs (B ∷ cases) zero A at g holds = inl (μ, g, subst (λ C. StateHolds w μ h (opened alone vs C s)) (sym (some_same at)) holds)
+some_case w next ν μ h s vs (B ∷ cases) zero A at g holds = inl (μ, g, subst (λ C. StateHolds w μ h (opened_anew alone vs C s)) (sym (some_same at)) holds)
 some_case w next ν μ h s vs (B ∷ cases) (suc number) A at g holds = inr (some_case w next ν μ h s vs cases number A at g holds)
 
 count_of_cases : (s : SymState) (vs : List (Name × Arg)) (cases : List Assertion) → length (cases_opened s vs cases) ≡ length cases

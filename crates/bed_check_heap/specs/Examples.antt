@@ -1,18 +1,18 @@
 -- Four bytes that go on at address 0 aren't a cell.
-use Rattle.std.specs.Prelude.{◌≡◌, ℕ, List, [], ◌∷◌, Ok}
+use Rattle.std.specs.Prelude.{◌≡◌, ℕ, ◌≤◌, List, [], ◌∷◌, length, Ok}
 use Rattle.bed_lang.specs.declared.word.Word.{Number}
 use Rattle.bed_lang.specs.declared.logic.Pure.{Pure}
 use Rattle.bed_lang.specs.declared.logic.Pure.TheVariants.{AtMost}
 use Rattle.bed_lang.specs.declared.logic.Atom.TheVariants.{Byte}
-use Rattle.bed_lang.specs.declared.module.Predicate.{Predicate}
-use Rattle.bed_lang.specs.declared.module.Signature.{Signature}
 use Rattle.bed_lang.specs.declared.condition.Decls.{Decls}
 use Rattle.bed_deriv.specs.declared.derivation.Deriv.{Deriv}
 use Rattle.bed_deriv.specs.declared.derivation.DArg.TheVariants as argument
 use Rattle.bed_deriv.specs.declared.derivation.Rule.TheVariants.{Shape}
 use Rattle.bed_deriv.specs.declared.state.SymState.{SymState}
 use Rattle.bed_deriv.specs.declared.state.Remainder.{Remainder}
-use Rattle.bed_check_pure.specs.Answers.{walked}
+use Rattle.bed_deriv.specs.Checks.{sequent}
+use Rattle.bed_deriv.specs.Walk.{walk}
+use Rattle.bed_deriv.specs.Derives.{fact_table}
 use Rattle.bed_check_heap.specs.Steps.{built_rule}
 
 -- bytes at the last three addresses and at 0
@@ -25,9 +25,6 @@ bytes_across = record {
       ∷ Byte (Number 0) (Number 4) ∷ [];
   next = 0;
 }
-
-abbrev pub without_labels : List Signature → List Predicate → Decls
-without_labels signatures predicates = record { signatures = signatures; predicates = predicates; labels = [] }
 
 -- the first fact that `shape[2, 1, 2, 3, 4]` asks for there
 abbrev pub too_high : Pure
@@ -44,8 +41,7 @@ AsksTooHighExample =
     (argument.Number 2 ∷ argument.Number 1 ∷ argument.Number 2 ∷ argument.Number 3 ∷ argument.Number 4 ∷ []) 5 ≡ Ok m
     → first_goal m.goals ≡ too_high ∷ []
 
--- no tree proves it
+-- no tree of the rules for facts proves it, under any declarations whose labels have room for addresses of their own
 abbrev pub NoTreeExample : Type 0
 NoTreeExample =
-    (signatures : List Signature) (predicates : List Predicate) (t : Deriv) (last : ℕ)
-    → walked (without_labels signatures predicates) bytes_across too_high t ≡ Ok last → ⊥
+    (d : Decls) (t : Deriv) (last : ℕ) → length d.labels ≤ 4294967296 → walk (fact_table d) t (sequent bytes_across too_high) 1 ≡ Ok last → ⊥

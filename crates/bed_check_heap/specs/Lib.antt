@@ -4,5 +4,4 @@ pub mod Sound
 pub mod Laws
 pub mod Parts
 pub mod Matching
-pub mod Refusals
 pub mod Examples

@@ -1,5 +1,5 @@
--- A match that is made step by step.
-use Rattle.std.specs.Prelude.{◌≡◌, ℕ, Bool, true, false, List, ◌++◌, Option, Some, None, Result, Ok, Err}
+-- What the code of a match answers.
+use Rattle.std.specs.Prelude.{◌≡◌, ℕ, List, Option, Result, Ok, Err}
 use Rattle.bed_lang.specs.declared.logic.Atom.{Atom}
 use Rattle.bed_lang.specs.declared.logic.Pure.{Pure}
 use Rattle.bed_lang.specs.declared.logic.Term.{Term}
@@ -7,24 +7,9 @@ use Rattle.bed_deriv.specs.declared.state.SymState.{SymState}
 use Rattle.bed_deriv.specs.Matches.{all_different, numbers_left, match_goals}
 use Rattle.bed_deriv.specs.Checks.{Check, Needs, Given, Leaves}
 use Rattle.bed_check_pure.specs.declared.fault.Fault.{Fault}
-use Rattle.bed_check_pure.specs.declared.fault.Fault.TheVariants.{Premise, Memory}
+use Rattle.bed_check_pure.specs.declared.fault.Fault.TheVariants.{Count, Argument, Condition, Memory}
 use Rattle.bed_check_heap.specs.declared.instances.Match.{Match}
-use Rattle.bed_check_heap.specs.Instances.{Matched}
-
--- items before those of a list, if there is one
-abbrev pub prefixed : {A : Type 0} → List A → Option (List A) → Option (List A)
-prefixed xs None = None
-prefixed xs (Some ys) = Some (xs ++ ys)
-
--- the goals so far, and those of further terms with the choices that are left, if there are any
-abbrev pub continued : List Pure → List Term → Option (List (ℕ × Atom)) → Option (List Pure)
-continued goals ts None = None
-continued goals ts (Some cs) = prefixed goals (match_goals ts cs)
-
--- the list is longer by these items; or there are none
-abbrev pub AppendedIf : {A : Type 0} → Bool → List A → List A → Option (List A) → Type 0
-AppendedIf true old new r = prefixed old r ≡ Some new
-AppendedIf false old new r = r ≡ None
+use Rattle.bed_deriv.specs.Instances.{Matched}
 
 -- a match of terms with the atoms that are chosen, from its third premise on, and given its goals
 abbrev pub match_left : SymState → List (ℕ × Atom) → Option (List Pure) → Check Matched
@@ -36,5 +21,7 @@ match_chosen s ts cs = Needs 3 (all_different cs) (match_left s cs (match_goals 
 -- the answer of a match is this, but for want of memory
 abbrev pub AnswersMatch : Result Match Fault → Result Matched ℕ → Type 0
 AnswersMatch (Ok m) r = r ≡ Ok (record { goals = m.goals; left = m.left })
-AnswersMatch (Err (Premise p)) r = r ≡ Err p
+AnswersMatch (Err Count) r = r ≡ Err 1
+AnswersMatch (Err Argument) r = r ≡ Err 2
+AnswersMatch (Err Condition) r = r ≡ Err 3
 AnswersMatch (Err Memory) r = Unit {0}

@@ -5,18 +5,19 @@ use Rattle.bed_lang.specs.declared.logic.Pure.{Pure}
 use Rattle.bed_lang.specs.declared.logic.Pure.TheVariants.{Equal, AtMost}
 use Rattle.bed_lang.specs.declared.logic.Atom.{Atom}
 use Rattle.bed_lang.specs.declared.logic.Atom.TheVariants.{Cell, Block}
+use Rattle.bed_lang.specs.declared.condition.Decls.{Decls}
 use Rattle.bed_deriv.specs.declared.derivation.DArg.{DArg}
 use Rattle.bed_deriv.specs.declared.state.SymState.{SymState}
 use Rattle.bed_deriv.specs.declared.state.Remainder.{Remainder}
 use Rattle.bed_deriv.specs.Arguments.{numbered, number_at, word_at}
 use Rattle.bed_deriv.specs.Matches.{atoms_left}
 use Rattle.bed_deriv.specs.declared.derivation.Rule.{Rule}
-use Rattle.bed_deriv.specs.declared.derivation.Rule.TheVariants.{Claim, When, Never, Divide, Merge, Shape, Hyp, Norm, Order, Cut, Carry, Split, Absurd, Distinct, Bound}
+use Rattle.bed_deriv.specs.declared.derivation.Rule.TheVariants.{Claim, When, Never, Divide, Merge, Shape}
 use Rattle.bed_deriv.specs.HeapRules.{claim, case_split, never, divide, merge, shape, taken, both_taken, with_atom, block_of, cell_of, byte_of, fresh_word, four_bytes, with_next, bytes_at, follows}
 use Rattle.bed_deriv.specs.Checks.{Step, Needs, Given, first_failure, leaves, with_room, left_states, with_fact}
 use Rattle.bed_check_pure.specs.declared.fault.Fault.{Fault}
-use Rattle.bed_check_pure.specs.declared.fault.Fault.TheVariants.{Premise, Memory}
-use Rattle.bed_check_heap.specs.Refusals.{hyp_refused, norm_refused, order_refused, cut_refused, carry_refused, absurd_refused, distinct_refused, bound_refused}
+use Rattle.bed_check_pure.specs.declared.fault.Fault.TheVariants.{Count, Argument, Condition, Memory}
+use Rattle.bed_check_heap.specs.Steps.{refused_rest}
 
 -- what is left of one fact and one state
 abbrev pub goal_and : Pure → SymState → Remainder
@@ -68,7 +69,9 @@ merge_from s args i x = Given 2 (number_at args 1) (λ j. Given 2 (numbered s.at
 -- the answer of a rule is this, but for want of memory; where a state that the rule makes has no room, the third premise fails
 abbrev pub AnswersRoom : Result Remainder Fault → Result Remainder ℕ → Type 0
 AnswersRoom (Ok m) r = r ≡ Ok m
-AnswersRoom (Err (Premise p)) r = with_room left_states r ≡ Err p
+AnswersRoom (Err Count) r = with_room left_states r ≡ Err 1
+AnswersRoom (Err Argument) r = with_room left_states r ≡ Err 2
+AnswersRoom (Err Condition) r = with_room left_states r ≡ Err 3
 AnswersRoom (Err Memory) r = Unit {0}
 
 abbrev pub bytes_made : SymState → ℕ → Word → Word → SymState
@@ -124,20 +127,11 @@ last_bytes s cs a b y z =
 -- ---- the rules that are built
 
 -- what a rule leaves, whether or not its states have room
-abbrev pub raw_rule : Rule → SymState → List DArg → ℕ → Result Remainder ℕ
-raw_rule Claim s args n = first_failure (claim s args n)
-raw_rule When s args n = first_failure (case_split s args n)
-raw_rule Never s args n = first_failure (never args n)
-raw_rule Divide s args n = first_failure (divide s args n)
-raw_rule Merge s args n = first_failure (merge s args n)
-raw_rule Shape s args n = first_failure (shape s args n)
-raw_rule Hyp s args n = first_failure (hyp_refused s args n)
-raw_rule Norm s args n = first_failure (norm_refused args n)
-raw_rule Order s args n = first_failure (order_refused args n)
-raw_rule Cut s args n = first_failure (cut_refused s args n)
-raw_rule Carry s args n = first_failure (carry_refused s args n)
-raw_rule Split s args n = first_failure (cut_refused s args n)
-raw_rule Absurd s args n = first_failure (absurd_refused s args n)
-raw_rule Distinct s args n = first_failure (distinct_refused s args n)
-raw_rule Bound s args n = first_failure (bound_refused s args n)
-raw_rule _ s args n = Err 3
+abbrev pub raw_rule : Decls → Rule → SymState → List DArg → ℕ → Result Remainder ℕ
+raw_rule d Claim s args n = first_failure (claim s args n)
+raw_rule d When s args n = first_failure (case_split s args n)
+raw_rule d Never s args n = first_failure (never args n)
+raw_rule d Divide s args n = first_failure (divide s args n)
+raw_rule d Merge s args n = first_failure (merge s args n)
+raw_rule d Shape s args n = first_failure (shape s args n)
+raw_rule d r s args n = refused_rest d r s args n

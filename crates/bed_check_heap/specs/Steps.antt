@@ -1,66 +1,37 @@
 -- What the check of a node for the rest of a condition answers.
-use Rattle.std.specs.Prelude.{◌≡◌, ℕ, List, [], ◌∷◌, length, map, None, Result, Ok, Err}
-use Rattle.bed_lang.specs.declared.logic.Pure.{Pure}
+use Rattle.std.specs.Prelude.{◌≡◌, ℕ, List, None, Result, Ok, Err}
 use Rattle.bed_lang.specs.declared.condition.Decls.{Decls}
 use Rattle.bed_deriv.specs.declared.derivation.Rule.{Rule}
-use Rattle.bed_deriv.specs.declared.derivation.Rule.TheVariants.{Claim, When, Never, Divide, Merge, Shape, Hyp, Norm, Order, Cut, Carry, Split, Absurd, Distinct, Bound}
+use Rattle.bed_deriv.specs.declared.derivation.Rule.TheVariants.{Claim, When, Never, Divide, Merge, Shape}
 use Rattle.bed_deriv.specs.declared.derivation.DArg.{DArg}
-use Rattle.bed_deriv.specs.declared.derivation.Deriv.{Deriv, Deriv-F, out-Deriv}
+use Rattle.bed_deriv.specs.declared.derivation.Deriv.{Deriv}
 use Rattle.bed_deriv.specs.declared.state.SymState.{SymState}
-use Rattle.bed_deriv.specs.declared.state.Sequent.{Sequent}
 use Rattle.bed_deriv.specs.declared.state.Remainder.{Remainder}
-use Rattle.bed_deriv.specs.Checks.{remainder, outcome, sequent}
-use Rattle.bed_deriv.specs.Walk.{Walked, walk, walk_all}
-use Rattle.bed_deriv.specs.Derives.{heap_rule, pure_rule, refused}
+use Rattle.bed_deriv.specs.Checks.{remainder}
+use Rattle.bed_deriv.specs.Nodes.{StateTable, stepped_by}
+use Rattle.bed_deriv.specs.Derives.{heap_rule, refused}
 use Rattle.bed_check_pure.specs.declared.verdict.Verdict.{Verdict}
 use Rattle.bed_check_pure.specs.declared.verdict.Verdict.TheVariants.{Reject, Memory}
-use Rattle.bed_check_pure.specs.Answers.{built_table}
+use Rattle.bed_check_pure.specs.Answers.{built_fact_rule, built_table}
 
--- The rules that are built: each by the table of rules, where those for facts, which prove no rest of a condition, are refused by their
--- first failing premise. A node of another rule fails its third premise.
-abbrev pub built_rule : Decls → Rule → SymState → List DArg → ℕ → Result Remainder ℕ
+-- a rule for facts proves no rest of a condition: a node of one is refused by the first of its premises that fails, or else by the third
+abbrev pub refused_rest : Decls → Rule → SymState → List DArg → ℕ → Result Remainder ℕ
+refused_rest d r s args n = refused (built_fact_rule d r s None args n)
+
+-- The rules that are built: those that change a state, each by the table of rules, and those for facts. A node of another rule fails its
+-- third premise.
+abbrev pub built_rule : Decls → StateTable
 built_rule d Claim s args n = remainder (heap_rule d Claim s args n)
 built_rule d When s args n = remainder (heap_rule d When s args n)
 built_rule d Never s args n = remainder (heap_rule d Never s args n)
 built_rule d Divide s args n = remainder (heap_rule d Divide s args n)
 built_rule d Merge s args n = remainder (heap_rule d Merge s args n)
 built_rule d Shape s args n = remainder (heap_rule d Shape s args n)
-built_rule d Hyp s args n = refused (outcome (pure_rule d Hyp s None args n))
-built_rule d Norm s args n = refused (outcome (pure_rule d Norm s None args n))
-built_rule d Order s args n = refused (outcome (pure_rule d Order s None args n))
-built_rule d Cut s args n = refused (outcome (pure_rule d Cut s None args n))
-built_rule d Carry s args n = refused (outcome (pure_rule d Carry s None args n))
-built_rule d Split s args n = refused (outcome (pure_rule d Split s None args n))
-built_rule d Absurd s args n = refused (outcome (pure_rule d Absurd s None args n))
-built_rule d Distinct s args n = refused (outcome (pure_rule d Distinct s None args n))
-built_rule d Bound s args n = refused (outcome (pure_rule d Bound s None args n))
-built_rule d _ s args n = Err 3
+built_rule d r s args n = refused_rest d r s args n
 
--- facts to be proved in one state
-abbrev pub sequents : SymState → List Pure → List Sequent
-sequents s [] = []
-sequents s (g ∷ gs) = sequent s g ∷ sequents s gs
-
--- The first children of a node, each with the fact that it proves in the node's own state, in order; the node has number 1. Then, where
--- each is accepted, what the node gives.
-abbrev pub where_walked : {A : Type 0} → A → Walked → Result A (ℕ × ℕ)
-where_walked x (Err e) = Err e
-where_walked x (Ok last) = Ok x
-
-abbrev pub children_walked : Decls → SymState → List Deriv → List Pure → Walked
-children_walked d s children goals = walk_all (map (walk (built_table d)) children) (sequents s goals) 2
-
-abbrev pub after_rule : Decls → SymState → List Deriv → Result Remainder ℕ → Result (List SymState) (ℕ × ℕ)
-after_rule d s children (Err p) = Err (1, p)
-after_rule d s children (Ok m) = where_walked m.states (children_walked d s children m.goals)
-
--- The states of the children that go on with the rest, where the node is an instance of its rule and its first children prove their
--- facts; else the first node in preorder that is no instance, with its first failing premise.
-abbrev pub stepped_node : Decls → SymState → Deriv-F Deriv → Result (List SymState) (ℕ × ℕ)
-stepped_node d s t = after_rule d s t.children (built_rule d t.rule s t.args (length t.children))
-
+-- the check of a node by these rules; the node has number 1
 abbrev pub stepped : Decls → SymState → Deriv → Result (List SymState) (ℕ × ℕ)
-stepped d s t = stepped_node d s (out-Deriv t)
+stepped d s t = stepped_by (built_table d) (built_rule d) s t 1
 
 -- the answer is this, but for want of memory
 abbrev pub Answers : {A : Type 0} → Result A Verdict → Result A (ℕ × ℕ) → Type 0

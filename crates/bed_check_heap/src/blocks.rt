@@ -91,7 +91,7 @@ fn divide_atom(alloc: Global, s: &SymState, i: u32, x: &Atom, m: Word) -> Result
             Ok(left) => Ok(left),
             Err(_) => Err(Fault::Memory),
         },
-        _ => Err(Fault::Premise(3)),
+        _ => Err(Fault::Condition),
     }
 }
 
@@ -106,7 +106,7 @@ fn divide_from(
 {
     match word_at(alloc, s, args, 1) {
         Err(_) => Err(Fault::Memory),
-        Ok(None) => Err(Fault::Premise(2)),
+        Ok(None) => Err(Fault::Argument),
         Ok(Some(m)) => divide_atom(alloc, s, i, x, m),
     }
 }
@@ -121,12 +121,12 @@ pub(crate) fn divide(
     ensures { AnswersRule result (first_failure (divide s.now args.now n)) }
 {
     if args.len() != 2 || n != 2 {
-        return Err(Fault::Premise(1));
+        return Err(Fault::Count);
     }
     match number_at(args, 0) {
-        None => Err(Fault::Premise(2)),
+        None => Err(Fault::Argument),
         Some(i) => match numbered(s.atoms.as_slice(), i) {
-            None => Err(Fault::Premise(2)),
+            None => Err(Fault::Argument),
             Some(x) => divide_from(alloc, s, args, i, x),
         },
     }
@@ -214,7 +214,7 @@ fn merge_blocks(
             Ok(left) => Ok(left),
             Err(_) => Err(Fault::Memory),
         },
-        _ => Err(Fault::Premise(3)),
+        _ => Err(Fault::Condition),
     }
 }
 
@@ -229,11 +229,11 @@ fn merge_atoms(
     ensures { AnswersRule result (first_failure (merge_atoms s.now i j x.now y.now)) }
 {
     if i == j {
-        return Err(Fault::Premise(3));
+        return Err(Fault::Condition);
     }
     match x {
         Atom::Block(e, k) => merge_blocks(alloc, s, i, j, e, k, y),
-        _ => Err(Fault::Premise(3)),
+        _ => Err(Fault::Condition),
     }
 }
 
@@ -247,9 +247,9 @@ fn merge_from(
     ensures { AnswersRule result (first_failure (merge_from s.now args.now i x.now)) }
 {
     match number_at(args, 1) {
-        None => Err(Fault::Premise(2)),
+        None => Err(Fault::Argument),
         Some(j) => match numbered(s.atoms.as_slice(), j) {
-            None => Err(Fault::Premise(2)),
+            None => Err(Fault::Argument),
             Some(y) => merge_atoms(alloc, s, i, j, x, y),
         },
     }
@@ -265,12 +265,12 @@ pub(crate) fn merge(
     ensures { AnswersRule result (first_failure (merge s.now args.now n)) }
 {
     if args.len() != 2 || n != 2 {
-        return Err(Fault::Premise(1));
+        return Err(Fault::Count);
     }
     match number_at(args, 0) {
-        None => Err(Fault::Premise(2)),
+        None => Err(Fault::Argument),
         Some(i) => match numbered(s.atoms.as_slice(), i) {
-            None => Err(Fault::Premise(2)),
+            None => Err(Fault::Argument),
             Some(x) => merge_from(alloc, s, args, i, x),
         },
     }

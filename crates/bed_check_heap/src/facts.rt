@@ -38,10 +38,10 @@ pub(crate) fn claim(
     ensures { AnswersRule result (first_failure (claim s.now args.now n)) }
 {
     if args.len() != 1 || n != 2 {
-        return Err(Fault::Premise(1));
+        return Err(Fault::Count);
     }
     match fact_given(s, args, 0) {
-        None => Err(Fault::Premise(2)),
+        None => Err(Fault::Argument),
         Some(p) => match claimed(alloc, s, p) {
             Ok(left) => Ok(left),
             Err(_) => Err(Fault::Memory),
@@ -68,7 +68,7 @@ fn cases_of(alloc: Global, s: &SymState, p: &Pure, other: Option<Pure>) -> Resul
     ensures { AnswersRule result (first_failure (cases_of s.now p.now other)) }
 {
     match other {
-        None => Err(Fault::Premise(3)),
+        None => Err(Fault::Condition),
         Some(other) => match both_states(alloc, s, p, other) {
             Ok(left) => Ok(left),
             Err(_) => Err(Fault::Memory),
@@ -86,10 +86,10 @@ pub(crate) fn case_split(
     ensures { AnswersRule result (first_failure (case_split s.now args.now n)) }
 {
     if args.len() != 1 || n != 2 {
-        return Err(Fault::Premise(1));
+        return Err(Fault::Count);
     }
     match fact_given(s, args, 0) {
-        None => Err(Fault::Premise(2)),
+        None => Err(Fault::Argument),
         Some(p) => match negation(alloc, p) {
             Err(_) => Err(Fault::Memory),
             Ok(other) => cases_of(alloc, s, p, other),
@@ -113,7 +113,7 @@ pub(crate) fn never(alloc: Global, args: &[DArg], n: usize) -> Result<Remainder,
     ensures { AnswersRule result (first_failure (never args.now n)) }
 {
     if args.len() != 0 || n != 1 {
-        return Err(Fault::Premise(1));
+        return Err(Fault::Count);
     }
     match falsehood(alloc) {
         Ok(left) => Ok(left),

@@ -3,13 +3,10 @@
 
 mod atoms;
 mod blocks;
-mod choice;
 pub mod examples;
 mod facts;
 mod instances;
 pub mod laws;
-mod matching;
-mod refusals;
 mod remainder;
 mod shapes;
 mod step;
@@ -17,5 +14,6 @@ mod walk;
 mod words;
 
 pub use bed_check_pure::Verdict;
-pub use instances::instance;
+pub use instances::{Match, instance, instance_of_terms, match_terms};
 pub use step::heap_step;
+pub use walk::children_walked;

@@ -7,11 +7,11 @@ ghost use Rattle.bed_deriv.specs.HeapRules.{taken, with_next, shapes, bytes_at, 
 ghost use Rattle.bed_check_heap.specs.Parts.{AnswersRoom, only, goal_and, bytes_made, bytes_of_cell, cell_of_block, cell_from_block, block_of_cell, block_from_cell, without_block, block_dropped, last_bytes, bytes_joined, cell_joined};
 
 use crate::atoms::{add_atom, add_block, add_cell, taken, with_atoms};
-use crate::choice::{all_different, atoms_left, chosen};
 use crate::remainder::{equal_and_state, goals_and_state, only_state};
 use crate::words::{four_bytes, fresh_word, plus};
 use bed_check_pure::Fault;
 use bed_deriv::arguments::{number_at, numbered};
+use bed_deriv::choice::{all_different, atoms_left, chosen};
 use bed_deriv::{DArg, Remainder, SymState};
 use bed_lang::{Atom, List, Pure, Word};
 use std::alloc::{AllocError, Global};
@@ -117,14 +117,14 @@ fn bytes_of_cell(alloc: Global, s: &SymState, i: u32, x: &Atom) -> Result<Remain
     match x {
         Atom::Cell(e, v) => {
             if s.next > u32::MAX - 4 {
-                return Err(Fault::Premise(3));
+                return Err(Fault::Condition);
             }
             match bytes_left(alloc, s, i, e, v) {
                 Ok(left) => Ok(left),
                 Err(_) => Err(Fault::Memory),
             }
         }
-        _ => Err(Fault::Premise(3)),
+        _ => Err(Fault::Condition),
     }
 }
 
@@ -133,12 +133,12 @@ fn cell_to_bytes(alloc: Global, s: &SymState, args: &[DArg], n: usize) -> Result
     ensures { AnswersRoom result (first_failure (cell_to_bytes s.now args.now n)) }
 {
     if args.len() != 2 || n != 1 {
-        return Err(Fault::Premise(1));
+        return Err(Fault::Count);
     }
     match number_at(args, 1) {
-        None => Err(Fault::Premise(2)),
+        None => Err(Fault::Argument),
         Some(i) => match numbered(s.atoms.as_slice(), i) {
-            None => Err(Fault::Premise(2)),
+            None => Err(Fault::Argument),
             Some(x) => bytes_of_cell(alloc, s, i, x),
         },
     }
@@ -256,9 +256,9 @@ fn last_bytes(
                 Ok(left) => Ok(left),
                 Err(_) => Err(Fault::Memory),
             },
-            _ => Err(Fault::Premise(3)),
+            _ => Err(Fault::Condition),
         },
-        _ => Err(Fault::Premise(3)),
+        _ => Err(Fault::Condition),
     }
 }
 
@@ -269,11 +269,11 @@ fn four_chosen(alloc: Global, s: &SymState, cs: &[(u32, Atom)]) -> Result<Remain
         [i, j, k, l] => match &i.1 {
             Atom::Byte(a, u) => match &j.1 {
                 Atom::Byte(b, v) => last_bytes(alloc, s, cs, (a, u), (b, v), &k.1, &l.1),
-                _ => Err(Fault::Premise(3)),
+                _ => Err(Fault::Condition),
             },
-            _ => Err(Fault::Premise(3)),
+            _ => Err(Fault::Condition),
         },
-        _ => Err(Fault::Premise(1)),
+        _ => Err(Fault::Count),
     }
 }
 
@@ -283,7 +283,7 @@ fn four_different(alloc: Global, s: &SymState, cs: List<(u32, Atom)>) -> Result<
     if all_different(cs.as_slice()) {
         four_chosen(alloc, s, cs.as_slice())
     } else {
-        Err(Fault::Premise(3))
+        Err(Fault::Condition)
     }
 }
 
@@ -292,11 +292,11 @@ fn bytes_to_cell(alloc: Global, s: &SymState, args: &[DArg], n: usize) -> Result
     ensures { AnswersRoom result (first_failure (bytes_to_cell s.now args.now n)) }
 {
     if args.len() != 5 || n != 5 {
-        return Err(Fault::Premise(1));
+        return Err(Fault::Count);
     }
     match chosen(alloc, s.atoms.as_slice(), &args[1..]) {
         Err(_) => Err(Fault::Memory),
-        Ok(None) => Err(Fault::Premise(2)),
+        Ok(None) => Err(Fault::Argument),
         Ok(Some(cs)) => four_different(alloc, s, cs),
     }
 }
@@ -325,14 +325,14 @@ fn cell_of_block(alloc: Global, s: &SymState, i: u32, x: &Atom) -> Result<Remain
     match x {
         Atom::Block(e, k) => {
             if s.next == u32::MAX {
-                return Err(Fault::Premise(3));
+                return Err(Fault::Condition);
             }
             match cell_from_block(alloc, s, i, e, k) {
                 Ok(left) => Ok(left),
                 Err(_) => Err(Fault::Memory),
             }
         }
-        _ => Err(Fault::Premise(3)),
+        _ => Err(Fault::Condition),
     }
 }
 
@@ -341,12 +341,12 @@ fn block_to_cell(alloc: Global, s: &SymState, args: &[DArg], n: usize) -> Result
     ensures { AnswersRoom result (first_failure (block_to_cell s.now args.now n)) }
 {
     if args.len() != 2 || n != 2 {
-        return Err(Fault::Premise(1));
+        return Err(Fault::Count);
     }
     match number_at(args, 1) {
-        None => Err(Fault::Premise(2)),
+        None => Err(Fault::Argument),
         Some(i) => match numbered(s.atoms.as_slice(), i) {
-            None => Err(Fault::Premise(2)),
+            None => Err(Fault::Argument),
             Some(x) => cell_of_block(alloc, s, i, x),
         },
     }
@@ -368,7 +368,7 @@ fn block_of_cell(alloc: Global, s: &SymState, i: u32, x: &Atom) -> Result<Remain
             Ok(left) => Ok(left),
             Err(_) => Err(Fault::Memory),
         },
-        _ => Err(Fault::Premise(3)),
+        _ => Err(Fault::Condition),
     }
 }
 
@@ -377,12 +377,12 @@ fn cell_to_block(alloc: Global, s: &SymState, args: &[DArg], n: usize) -> Result
     ensures { AnswersRoom result (first_failure (cell_to_block s.now args.now n)) }
 {
     if args.len() != 2 || n != 1 {
-        return Err(Fault::Premise(1));
+        return Err(Fault::Count);
     }
     match number_at(args, 1) {
-        None => Err(Fault::Premise(2)),
+        None => Err(Fault::Argument),
         Some(i) => match numbered(s.atoms.as_slice(), i) {
-            None => Err(Fault::Premise(2)),
+            None => Err(Fault::Argument),
             Some(x) => block_of_cell(alloc, s, i, x),
         },
     }
@@ -403,7 +403,7 @@ fn without_block(alloc: Global, s: &SymState, i: u32, x: &Atom) -> Result<Remain
             Ok(left) => Ok(left),
             Err(_) => Err(Fault::Memory),
         },
-        _ => Err(Fault::Premise(3)),
+        _ => Err(Fault::Condition),
     }
 }
 
@@ -412,12 +412,12 @@ fn drop_block(alloc: Global, s: &SymState, args: &[DArg], n: usize) -> Result<Re
     ensures { AnswersRoom result (first_failure (drop_block s.now args.now n)) }
 {
     if args.len() != 2 || n != 2 {
-        return Err(Fault::Premise(1));
+        return Err(Fault::Count);
     }
     match number_at(args, 1) {
-        None => Err(Fault::Premise(2)),
+        None => Err(Fault::Argument),
         Some(i) => match numbered(s.atoms.as_slice(), i) {
-            None => Err(Fault::Premise(2)),
+            None => Err(Fault::Argument),
             Some(x) => without_block(alloc, s, i, x),
         },
     }
@@ -441,7 +441,7 @@ fn shape_of(
         3 => block_to_cell(alloc, s, args, n),
         4 => cell_to_block(alloc, s, args, n),
         5 => drop_block(alloc, s, args, n),
-        _ => Err(Fault::Premise(2)),
+        _ => Err(Fault::Argument),
     }
 }
 
@@ -455,10 +455,10 @@ pub(crate) fn shape(
     ensures { AnswersRoom result (first_failure (shape s.now args.now n)) }
 {
     if args.is_empty() {
-        return Err(Fault::Premise(1));
+        return Err(Fault::Count);
     }
     match number_at(args, 0) {
-        None => Err(Fault::Premise(2)),
+        None => Err(Fault::Argument),
         Some(k) => shape_of(alloc, s, args, n, k),
     }
 }

@@ -1,31 +1,50 @@
 //! The check of a node for the rest of a condition.
-ghost use Rattle.std.specs.Prelude.{◌≡◌, IfOk};
+ghost use Rattle.std.specs.Prelude.{Err, IfOk};
+ghost use Rattle.bed_check_pure.specs.Answers.{built_table};
 ghost use Rattle.bed_check_pure.specs.Faults.{AnswersRule};
-ghost use Rattle.bed_check_heap.specs.Steps.{built_rule, where_walked, children_walked, stepped, Answers};
+ghost use Rattle.bed_check_heap.specs.Steps.{refused_rest, built_rule, stepped, Answers};
+ghost use Rattle.bed_deriv.specs.Nodes.{where_walked, children_walked};
 ghost use Rattle.bed_check_heap.specs.Parts.{AnswersRoom, raw_rule};
 ghost use Rattle.bed_check_heap.specs.Sound.{Leads};
 
 use crate::blocks::{divide, merge};
 use crate::facts::{case_split, claim, never};
-use crate::refusals;
 use crate::remainder::states_have_room;
 use crate::shapes::shape;
 use crate::walk::children_walked;
-use bed_check_pure::{Fault, Verdict};
+use bed_check_pure::{Fault, Verdict, fact_rule};
 use bed_deriv::{DArg, Deriv, Remainder, Rule, SymState};
 use bed_lang::{Decls, List};
 use std::alloc::Global;
+
+// The refusal of a rule for facts, which proves no rest of a condition.
+fn refused_rest(
+    alloc: Global,
+    decls: &Decls,
+    rule: Rule,
+    s: &SymState,
+    args: &[DArg],
+    n: usize,
+) -> Fault
+    ensures { AnswersRule (Err result) (refused_rest decls.now rule s.now args.now n) }
+{
+    match fact_rule(alloc, decls, rule, s, None, args, n) {
+        Ok(_) => Fault::Condition,
+        Err(fault) => fault,
+    }
+}
 
 // What a rule leaves, whether or not its states have room.
 #[tactic(auto, using(crate::proofs::AnswerLaws::exact_room))]
 fn raw_rule(
     alloc: Global,
+    decls: &Decls,
     rule: Rule,
     s: &SymState,
     args: &[DArg],
     n: usize,
 ) -> Result<Remainder, Fault>
-    ensures { AnswersRoom result (raw_rule rule s.now args.now n) }
+    ensures { AnswersRoom result (raw_rule decls.now rule s.now args.now n) }
 {
     match rule {
         Rule::Claim => claim(alloc, s, args, n),
@@ -34,15 +53,7 @@ fn raw_rule(
         Rule::Divide => divide(alloc, s, args, n),
         Rule::Merge => merge(alloc, s, args, n),
         Rule::Shape => shape(alloc, s, args, n),
-        Rule::Hyp => Err(refusals::hyp(s, args, n)),
-        Rule::Norm => Err(refusals::norm(args, n)),
-        Rule::Order => Err(refusals::order(args, n)),
-        Rule::Cut | Rule::Split => Err(refusals::cut(s, args, n)),
-        Rule::Carry => Err(refusals::carry(alloc, s, args, n)),
-        Rule::Absurd => Err(refusals::contradiction(s, args, n)),
-        Rule::Distinct => Err(refusals::distinct(s, args, n)),
-        Rule::Bound => Err(refusals::bound(s, args, n)),
-        _ => Err(Fault::Premise(3)),
+        _ => Err(refused_rest(alloc, decls, rule, s, args, n)),
     }
 }
 
@@ -58,13 +69,13 @@ fn built_rule(
 ) -> Result<Remainder, Fault>
     ensures { AnswersRule result (built_rule decls.now rule s.now args.now n) }
 {
-    match raw_rule(alloc, rule, s, args, n) {
+    match raw_rule(alloc, decls, rule, s, args, n) {
         Err(fault) => Err(fault),
         Ok(left) => {
             if states_have_room(left.states.as_slice()) {
                 Ok(left)
             } else {
-                Err(Fault::Premise(3))
+                Err(Fault::Condition)
             }
         }
     }
@@ -78,10 +89,10 @@ fn after_rule(
     children: &[Deriv],
     left: Remainder,
 ) -> Result<List<SymState>, Verdict>
-    ensures { Answers result (where_walked left.states (children_walked decls.now s.now children.now left.goals)) }
+    ensures { Answers result (where_walked left.states (children_walked (built_table decls.now) s.now children.now left.goals 2)) }
 {
     let Remainder { goals, states } = left;
-    match children_walked(alloc, decls, s, children, goals.as_slice()) {
+    match children_walked(alloc, decls, s, children, goals.as_slice(), 2) {
         Ok(_) => Ok(states),
         Err(verdict) => Err(verdict),
     }
@@ -96,7 +107,18 @@ fn checked_node(
     ensures { Answers result (stepped decls.now s.now d.now) }
 {
     match built_rule(alloc, decls, d.rule, s, d.args.as_slice(), d.children.len()) {
-        Err(Fault::Premise(premise)) => Err(Verdict::Reject { node: 1, premise }),
+        Err(Fault::Count) => Err(Verdict::Reject {
+            node: 1,
+            premise: 1,
+        }),
+        Err(Fault::Argument) => Err(Verdict::Reject {
+            node: 1,
+            premise: 2,
+        }),
+        Err(Fault::Condition) => Err(Verdict::Reject {
+            node: 1,
+            premise: 3,
+        }),
         Err(Fault::Memory) => Err(Verdict::Memory),
         Ok(left) => after_rule(alloc, decls, s, d.children.as_slice(), left),
     }

@@ -4,7 +4,7 @@ ghost use Rattle.bed_deriv.specs.Checks.{sequent};
 ghost use Rattle.bed_deriv.specs.Walk.{walk};
 ghost use Rattle.bed_check_pure.specs.Answers.{built_table};
 ghost use Rattle.bed_check_pure.specs.Faults.{AnswersWalk};
-ghost use Rattle.bed_check_heap.specs.Steps.{children_walked};
+ghost use Rattle.bed_deriv.specs.Nodes.{children_walked};
 
 use bed_check_pure::{Verdict, check_sequent};
 use bed_deriv::{Deriv, Sequent, SymState};
@@ -35,17 +35,24 @@ fn child_walked(
     }
 }
 
-/// Checks that the first children prove these goals in order, and gives the number after their last node.
-pub(crate) fn children_walked(
+/// Checks that the first children prove these goals in this state, in order, and gives the number after
+/// their last node; the first child has number `node`.
+///
+/// # Errors
+/// `Reject` exactly where one of them is refused: the first node in preorder that is no instance of its
+/// rule, with its first failing premise. `Memory` for want of memory, and where there are more than
+/// 4294967295 nodes.
+pub fn children_walked(
     alloc: Global,
     decls: &Decls,
     s: &SymState,
     children: &[Deriv],
     goals: &[Pure],
+    node: u32,
 ) -> Result<u32, Verdict>
-    ensures { AnswersWalk result (children_walked decls.now s.now children.now goals.now) }
+    ensures { AnswersWalk result (children_walked (built_table decls.now) s.now children.now goals.now node) }
 {
-    let mut at = 2;
+    let mut at = node;
     let mut rest = goals;
     for child in children {
         match rest {

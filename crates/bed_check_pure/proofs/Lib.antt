@@ -3,6 +3,7 @@ pub mod AtomLaws
 pub mod CheckLaws
 pub mod RuleLaws
 pub mod RebuiltLaws
+pub mod RewrittenLaws
 pub mod LabelLaws
 pub mod PieceLaws
 pub mod MemberLaws

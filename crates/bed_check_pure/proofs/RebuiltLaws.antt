@@ -14,7 +14,7 @@ use Rattle.bed_lang.specs.Values.{Values, value, list_value}
 use Rattle.bed_lang.specs.Forms.{Part}
 use Rattle.bed_lang.specs.Coefficients.{key_value, parts_value, form_value, pieces_value}
 use Rattle.bed_lang.proofs.ValueLaws.{value-Number, value-Var, value-Label, value-Add, value-Times, value-small, list_value-Var, list_value-Nil, list_value-Cons, list_value-App}
-use Rattle.bed_deriv.specs.Rebuilt.{key_word, part_word, sum_from, parts_word, form_word, pieces_seq}
+use Rattle.bed_forms.specs.Rebuilt.{key_word, part_word, sum_from, parts_word, form_word, pieces_seq}
 
 module _ (labels : List ℕ → ℕ) (ν : Values) where
   abbrev V : Word → ℕ

@@ -25,10 +25,6 @@ pub never_accepted : {A B : Type 0} (r : Result A ℕ) (x : B) → refused r ≡
 never_accepted (Ok y) x e = absurd (cc)
 never_accepted (Err p) x e = absurd (cc)
 
-pub whatever_room : {A : Type 0} (r : Result A ℕ) → with_room states_of (refused r) ≡ refused r
-whatever_room (Ok y) = refl
-whatever_room (Err p) = refl
-
 -- ---- what a check is refused with, read off its premises
 
 abbrev pub Refused : Result (List Sequent) ℕ → Step → Type 0

@@ -1,34 +1,30 @@
 -- Where terms have the values of the variables that they stand for, a state with these terms in the place of the variables, written
 -- anew from its forms, holds where the state does.
-use Rattle.std.proofs.Common.{◌≡◌, ◌≢◌, ℕ, ◌+◌, ◌-◌, ◌*◌, ◌<◌, ◌≤◌, Some, List, [], ◌∷◌, ◌++◌, map, Contains, refl, sym, ◌∙◌, ap, ap₂, subst}
+use Rattle.std.proofs.Common.{◌≡◌, ℕ, ◌+◌, ◌-◌, ◌*◌, List, [], ◌∷◌, ◌++◌, map, sym, ◌∙◌, ap, ap₂, subst}
 use mathlib.Core.Path.{transport}
 use Rattle.bed_machine.specs.Memory.{Memory}
 use Rattle.bed_lang.specs.declared.word.Word.{Word, roll-Word, map-Word, ind-Word}
 use Rattle.bed_lang.specs.declared.word.Word.TheOpen.{Word-F}
 use Rattle.bed_lang.specs.declared.word.Seq.{Seq, roll-Seq, map-Seq, ind-Seq}
 use Rattle.bed_lang.specs.declared.word.Seq.TheOpen.{Seq-F}
-use Rattle.bed_lang.specs.declared.logic.Arg.{Arg}
-use Rattle.bed_lang.specs.declared.logic.Arg.TheVariants as arg
 use Rattle.bed_lang.specs.declared.logic.Pure.{Pure}
-use Rattle.bed_lang.specs.declared.logic.Pure.TheVariants as pure
 use Rattle.bed_lang.specs.declared.logic.Atom.{Atom}
-use Rattle.bed_lang.specs.declared.logic.Atom.TheVariants as atom
 use Rattle.bed_lang.specs.Numbers.{wrap}
 use Rattle.bed_lang.specs.Values.{Values, Variable, variable, value, list_value}
-use Rattle.bed_lang.specs.Instances.{Instance, word_with, word_with_step, seq_with, seq_with_step, arg_with, args_with, pure_with, atom_with}
+use Rattle.bed_lang.specs.Instances.{Instance, word_with, word_with_step, seq_with, seq_with_step}
 use Rattle.bed_lang.specs.Forms.{word_form, seq_form}
 use Rattle.bed_lang.proofs.ValueLaws.{value-Number, value-Label, value-Add, value-Sub, value-Times, list_value-Nil, list_value-Cons, list_value-App}
 use Rattle.bed_lang.proofs.RollLaws.{value_roll, list_roll, word_with-roll, seq_with-roll}
 use Rattle.bed_forms.proofs.FormValues.{form-value}
 use Rattle.bed_forms.proofs.FormLaws.{pieces-value}
-use Rattle.bed_sat.specs.Cells.{IsCell, IsByte, IsBlock}
 use Rattle.bed_sat.specs.Facts.{IsTrueFact}
-use Rattle.bed_sat.specs.Assertions.{World, WordValue, ListValue, Meaning, arg_value, arg_values, IsTrueAtom, meaning}
+use Rattle.bed_sat.specs.Assertions.{World, Meaning, IsTrueAtom, meaning}
 use Rattle.bed_deriv.specs.declared.state.SymState.{SymState}
-use Rattle.bed_deriv.specs.Rebuilt.{rebuilt_word, rebuilt_seq, rebuilt_arg, rebuilt_fact, rebuilt_atom}
-use Rattle.bed_deriv.specs.PureRules.{replaced_facts, replaced_atoms, replaced_state}
+use Rattle.bed_deriv.specs.Opening.{replaced_word, replaced_seq, replaced_fact, replaced_atom}
+use Rattle.bed_deriv.specs.PureRules.{replaced_state}
 use Rattle.bed_check_pure.specs.States.{AreTrueFacts, AreTrueAtoms, StateHolds}
 use Rattle.bed_check_pure.proofs.RebuiltLaws.{form_word-value, pieces_seq-value}
+use Rattle.bed_check_pure.proofs.RewrittenLaws.{fact_rewritten, atom_rewritten}
 
 -- each term has the value of the variable that it stands for
 pub record Keeps (labels : List ℕ → ℕ) (ν : Values) (σ : Instance) : Type 0 where
@@ -83,43 +79,24 @@ module _ (w : World) (ν : Values) (σ : Instance) (keeps : Keeps w.labels ν σ
   seq_kept : (s : Seq) → IsKeptList s
   seq_kept = ind-Seq IsKeptList (λ x y is. subst (λ (z : Seq-F Seq). IsKeptList (roll-Seq z)) is (seq_layer y))
 
-  new_word : (a : Word) → V (rebuilt_word (word_with σ a)) ≡ V a
+  new_word : (a : Word) → V (replaced_word σ a) ≡ V a
   new_word a = form_word-value w.labels ν (word_form (word_with σ a)) ∙ form-value w.labels ν (word_with σ a) ∙ word_kept a
 
-  new_seq : (s : Seq) → L (rebuilt_seq (seq_with σ s)) ≡ L s
+  new_seq : (s : Seq) → L (replaced_seq σ s) ≡ L s
   new_seq s = pieces_seq-value w.labels ν (seq_form (seq_with σ s)) ∙ pieces-value w.labels ν (seq_with σ s) ∙ seq_kept s
 
   -- a fact, and what it is with terms for variables, are true together
-  pub same_truth : (p : Pure) → IsTrueFact w.codes w.labels ν (rebuilt_fact (pure_with σ p)) ≡ IsTrueFact w.codes w.labels ν p
-  same_truth (pure.Equal a b) = ap₂ (λ m n. m ≡ n) (new_word a) (new_word b)
-  same_truth (pure.Unequal a b) = ap₂ (λ m n. m ≢ n) (new_word a) (new_word b)
-  same_truth (pure.Less a b) = ap₂ (λ m n. m < n) (new_word a) (new_word b)
-  same_truth (pure.AtMost a b) = ap₂ (λ m n. m ≤ n) (new_word a) (new_word b)
-  same_truth (pure.Same s t) = ap₂ (λ m n. m ≡ n) (new_seq s) (new_seq t)
-  same_truth (pure.Member a s) = ap₂ (λ m n. Contains n m) (new_word a) (new_seq s)
-  same_truth (pure.NonMember a s) = ap₂ (λ m n. Contains n m → ⊥) (new_word a) (new_seq s)
-  same_truth (pure.Code a name) = ap (λ m. w.codes m ≡ Some name.bytes) (new_word a)
+  pub same_truth : (p : Pure) → IsTrueFact w.codes w.labels ν (replaced_fact σ p) ≡ IsTrueFact w.codes w.labels ν p
+  same_truth = fact_rewritten w.codes w.labels ν ν (replaced_word σ) (replaced_seq σ) new_word new_seq
 
-  new_arg : (a : Arg) → arg_value w.codes w.labels ν (rebuilt_arg (arg_with σ a)) ≡ arg_value w.codes w.labels ν a
-  new_arg (arg.Word at a) = ap WordValue (new_word a)
-  new_arg (arg.Seq at s) = ap ListValue (new_seq s)
-  new_arg (arg.Bare name) = refl
+  same_atom_truth : (P : Meaning) (x : Atom) (h : Memory) → IsTrueAtom w.codes w.labels P ν (replaced_atom σ x) h ≡ IsTrueAtom w.codes w.labels P ν x h
+  same_atom_truth = atom_rewritten w.codes w.labels ν ν (replaced_word σ) (replaced_seq σ) new_word new_seq
 
-  new_args : (more : List Arg) → arg_values w.codes w.labels ν (map rebuilt_arg (args_with σ more)) ≡ arg_values w.codes w.labels ν more
-  new_args [] = refl
-  new_args (a ∷ more) = ap₂ (λ v vs. v ∷ vs) (new_arg a) (new_args more)
-
-  same_atom_truth : (P : Meaning) (x : Atom) (h : Memory) → IsTrueAtom w.codes w.labels P ν (rebuilt_atom (atom_with σ x)) h ≡ IsTrueAtom w.codes w.labels P ν x h
-  same_atom_truth P (atom.Cell a v) h = ap₂ (λ m n. IsCell m n h) (new_word a) (new_word v)
-  same_atom_truth P (atom.Byte a v) h = ap₂ (λ m n. IsByte m n h) (new_word a) (new_word v)
-  same_atom_truth P (atom.Block a n) h = ap₂ (λ m k. IsBlock m k h) (new_word a) (new_word n)
-  same_atom_truth P (atom.Pred name args) h = ap (λ vs. P name.bytes vs h) (new_args args)
-
-  new_facts : (ps : List Pure) → AreTrueFacts w ν ps → AreTrueFacts w ν (replaced_facts σ ps)
+  new_facts : (ps : List Pure) → AreTrueFacts w ν ps → AreTrueFacts w ν (map (replaced_fact σ) ps)
   new_facts [] t = tt
   new_facts (p ∷ ps) t = (transport (sym (same_truth p)) t.0, new_facts ps t.1)
 
-  new_atoms : (P : Meaning) (xs : List Atom) (h : Memory) → AreTrueAtoms w ν P xs h → AreTrueAtoms w ν P (replaced_atoms σ xs) h
+  new_atoms : (P : Meaning) (xs : List Atom) (h : Memory) → AreTrueAtoms w ν P xs h → AreTrueAtoms w ν P (map (replaced_atom σ) xs) h
   new_atoms P [] h t = t
   new_atoms P (x ∷ xs) h (here, others, j, t, more) = (here, others, j, transport (sym (same_atom_truth P x here)) t, new_atoms P xs others more)
 
@@ -131,5 +108,5 @@ module _ (w : World) (ν : Values) (σ : Instance) (keeps : Keeps w.labels ν σ
     atoms = new_atoms (meaning w holds.depth) s.atoms h holds.atoms;
   }
 
-  pub from_replaced : (p : Pure) → IsTrueFact w.codes w.labels ν (rebuilt_fact (pure_with σ p)) → IsTrueFact w.codes w.labels ν p
+  pub from_replaced : (p : Pure) → IsTrueFact w.codes w.labels ν (replaced_fact σ p) → IsTrueFact w.codes w.labels ν p
   from_replaced p t = transport (same_truth p) t

@@ -36,9 +36,9 @@ use Rattle.bed_sat.specs.Facts.{IsTrueFact}
 use Rattle.bed_sat.specs.Assertions.{World}
 use Rattle.bed_deriv.specs.declared.derivation.DArg.{DArg}
 use Rattle.bed_deriv.specs.declared.state.Sequent.{Sequent}
-use Rattle.bed_deriv.specs.Opening.{occurrence}
-use Rattle.bed_deriv.specs.Rebuilt.{form_word, pieces_seq}
-use Rattle.bed_deriv.specs.PureRules.{word_set, seq_set, parts_but, form_but, solved_by, is_just, has_sequence, solved_sequence, solution, solve}
+use Rattle.bed_deriv.specs.Opening.{occurrence, word_set, seq_set}
+use Rattle.bed_forms.specs.Rebuilt.{form_word, pieces_seq}
+use Rattle.bed_deriv.specs.PureRules.{parts_but, form_but, solved_by, is_just, has_sequence, solved_sequence, solution, solve}
 use Rattle.bed_check_pure.proofs.CheckLaws.{IsSoundCheck}
 use Rattle.bed_check_pure.proofs.RuleLaws.{counted, fact_true, goal_true}
 use Rattle.bed_check_pure.proofs.RebuiltLaws.{form_word-value, pieces_seq-value}

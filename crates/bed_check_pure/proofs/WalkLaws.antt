@@ -14,10 +14,11 @@ use Rattle.bed_deriv.specs.declared.state.SymState.{SymState}
 use Rattle.bed_deriv.specs.declared.state.Sequent.{Sequent}
 use Rattle.bed_deriv.specs.Checks.{sequent}
 use Rattle.bed_deriv.specs.Walk.{Table, Walked, Walk, and_then, walk_all, walk_below, walk_step, walk}
+use Rattle.bed_deriv.specs.Derives.{fact_table}
 use Rattle.bed_check_pure.specs.States.{AreTrueFacts, StateHolds, world}
 use Rattle.bed_check_pure.specs.Sound.{FollowsAt, AllFollowAt, Follows}
 use Rattle.bed_check_pure.specs.Answers.{built_table, walked}
-use Rattle.bed_check_pure.proofs.TableLaws.{built_sound}
+use Rattle.bed_check_pure.proofs.TableLaws.{fact_sound, built_sound}
 
 then_parts : (w : Walked) (f : ℕ → Walked) (m : ℕ) → and_then w f ≡ Ok m → (k : ℕ) × (w ≡ Ok k) × (f k ≡ Ok m)
 then_parts (Ok k) f m e = (k, refl, e)
@@ -70,6 +71,10 @@ module _ (w : World) (ν : Values) (h : Memory) (fits : LabelsFit w) where
   -- a goal that a tree is accepted for follows
   pub tree_follows : (t : Deriv) (q : Sequent) (n last : ℕ) → walk (built_table w.decls) t q n ≡ Ok last → FollowsAt w ν h q
   tree_follows = walk_sound (built_table w.decls) (FollowsAt w ν h) (AllFollowAt w ν h) tt (λ q qs one others. (one, others)) (λ r q args n qs. built_sound w ν h q args n qs fits r)
+
+  -- by all rules for facts too
+  pub whole_follows : (t : Deriv) (q : Sequent) (n last : ℕ) → walk (fact_table w.decls) t q n ≡ Ok last → FollowsAt w ν h q
+  whole_follows = walk_sound (fact_table w.decls) (FollowsAt w ν h) (AllFollowAt w ν h) tt (λ q qs one others. (one, others)) (λ r q args n qs. fact_sound w ν h q args n qs fits r)
 
   -- and so do the goals that trees are accepted for, in order, where there are as many trees as goals, or more
   pub trees_follow : (ts : List Deriv) (qs : List Sequent) (n last : ℕ) → length qs ≤ length ts

@@ -1,8 +1,9 @@
 //! The check of a derivation, node by node.
-ghost use Rattle.std.specs.Prelude.{◌≡◌, OnOk};
+ghost use Rattle.std.specs.Prelude.{OnOk};
+ghost use Rattle.std.specs.Option.{option_copied};
 ghost use Rattle.bed_deriv.specs.Walk.{walk, walk_all};
-ghost use Rattle.bed_check_pure.specs.Faults.{AnswersRule, AnswersWalk, raw_rule};
-ghost use Rattle.bed_check_pure.specs.Answers.{built_table, walked, Answers};
+ghost use Rattle.bed_check_pure.specs.Faults.{AnswersRule, AnswersWalk, raw_fact_rule};
+ghost use Rattle.bed_check_pure.specs.Answers.{built_fact_rule, built_table, walked, Answers};
 ghost use Rattle.bed_check_pure.specs.Sound.{Follows};
 
 use crate::fault::Fault;
@@ -13,38 +14,62 @@ use bed_deriv::{DArg, Deriv, Rule, Sequent, SymState};
 use bed_lang::{Decls, List, Pure};
 use std::alloc::Global;
 
-// What a rule leaves to prove, whether or not its states have room.
-fn raw_rule(
+// What a rule for facts leaves to prove, whether or not its states have room.
+fn raw_fact_rule(
     alloc: Global,
     rule: Rule,
-    q: &Sequent,
+    s: &SymState,
+    goal: Option<&Pure>,
     args: &[DArg],
     n: usize,
 ) -> Result<List<Sequent>, Fault>
-    ensures { AnswersRule result (raw_rule rule q.now args.now n) }
+    ensures { AnswersRule result (raw_fact_rule rule s.now (option_copied goal.entry) args.now n) }
 {
     match rule {
-        Rule::Hyp => rules::hyp(alloc, q, args, n),
-        Rule::Norm => rules::norm(alloc, q, args, n),
-        Rule::Order => rules::order(alloc, q, args, n),
-        Rule::Cut => rules::cut(alloc, q, args, n),
-        Rule::Carry => rules::carry(alloc, q, args, n),
-        Rule::Split => rules::split(alloc, q, args, n),
-        Rule::Absurd => rules::contradiction(alloc, q, args, n),
-        Rule::Distinct => rules::distinct(alloc, q, args, n),
-        Rule::Bound => rules::bound(alloc, q, args, n),
-        Rule::Claim => Err(refusals::claim(&q.state, args, n)),
-        Rule::When => Err(refusals::claim(&q.state, args, n)),
-        Rule::Never => Err(refusals::never(args, n)),
-        Rule::Divide => Err(refusals::divide(alloc, &q.state, args, n)),
-        Rule::Merge => Err(refusals::merge(&q.state, args, n)),
-        Rule::Shape => Err(refusals::shape(&q.state, args, n)),
-        _ => Err(Fault::Premise(3)),
+        Rule::Hyp => rules::hyp(alloc, s, goal, args, n),
+        Rule::Norm => rules::norm(alloc, goal, args, n),
+        Rule::Order => rules::order(alloc, s, goal, args, n),
+        Rule::Cut => rules::cut(alloc, s, goal, args, n),
+        Rule::Carry => rules::carry(alloc, s, goal, args, n),
+        Rule::Split => rules::split(alloc, s, goal, args, n),
+        Rule::Absurd => rules::contradiction(alloc, s, goal, args, n),
+        Rule::Distinct => rules::distinct(alloc, s, goal, args, n),
+        Rule::Bound => rules::bound(alloc, s, goal, args, n),
+        _ => Err(Fault::Condition),
+    }
+}
+
+/// What a rule for facts leaves to prove of a goal in a state, with these arguments and so many children.
+/// The goal is None at the rest of a condition, which no such rule proves.
+///
+/// # Errors
+/// The first premise that fails; `Memory` for want of memory.
+#[tactic(auto, using(crate::proofs::BuiltLaws::raw_built))]
+pub fn fact_rule(
+    alloc: Global,
+    decls: &Decls,
+    rule: Rule,
+    s: &SymState,
+    goal: Option<&Pure>,
+    args: &[DArg],
+    n: usize,
+) -> Result<List<Sequent>, Fault>
+    ensures { AnswersRule result (built_fact_rule decls.now rule s.now (option_copied goal.entry) args.now n) }
+{
+    match raw_fact_rule(alloc, rule, s, goal, args, n) {
+        Err(fault) => Err(fault),
+        Ok(goals) => {
+            if goals_have_room(goals.as_slice()) {
+                Ok(goals)
+            } else {
+                Err(Fault::Condition)
+            }
+        }
     }
 }
 
 // What a rule leaves to prove.
-#[tactic(auto, using(crate::proofs::BuiltLaws::raw_built))]
+#[tactic(auto, using(crate::proofs::RefusalLaws::claim_is, crate::proofs::RefusalLaws::when_is, crate::proofs::RefusalLaws::never_is, crate::proofs::RefusalLaws::divide_is, crate::proofs::RefusalLaws::merge_is, crate::proofs::RefusalLaws::shape_is))]
 fn instance(
     alloc: Global,
     decls: &Decls,
@@ -55,15 +80,14 @@ fn instance(
 ) -> Result<List<Sequent>, Fault>
     ensures { AnswersRule result (built_table decls.now rule q.now args.now n) }
 {
-    match raw_rule(alloc, rule, q, args, n) {
-        Err(fault) => Err(fault),
-        Ok(goals) => {
-            if goals_have_room(goals.as_slice()) {
-                Ok(goals)
-            } else {
-                Err(Fault::Premise(3))
-            }
-        }
+    match rule {
+        Rule::Claim => Err(refusals::claim(&q.state, args, n)),
+        Rule::When => Err(refusals::claim(&q.state, args, n)),
+        Rule::Never => Err(refusals::never(args, n)),
+        Rule::Divide => Err(refusals::divide(alloc, &q.state, args, n)),
+        Rule::Merge => Err(refusals::merge(&q.state, args, n)),
+        Rule::Shape => Err(refusals::shape(&q.state, args, n)),
+        _ => fact_rule(alloc, decls, rule, &q.state, Some(&q.goal), args, n),
     }
 }
 
@@ -83,7 +107,9 @@ pub fn check_sequent(
 {
     let goals = match instance(alloc, decls, d.rule, q, d.args.as_slice(), d.children.len()) {
         Ok(goals) => goals,
-        Err(Fault::Premise(premise)) => return Err(Verdict::Reject { node, premise }),
+        Err(Fault::Count) => return Err(Verdict::Reject { node, premise: 1 }),
+        Err(Fault::Argument) => return Err(Verdict::Reject { node, premise: 2 }),
+        Err(Fault::Condition) => return Err(Verdict::Reject { node, premise: 3 }),
         Err(Fault::Memory) => return Err(Verdict::Memory),
     };
     if node == u32::MAX {

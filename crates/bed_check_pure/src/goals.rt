@@ -20,71 +20,74 @@ fn push_goal(
     out.push(Sequent { state, goal })
 }
 
-// The node's own goal with a further fact, at the end of the goals.
+// A goal in a state with a further fact, at the end of the goals.
 fn push_known(
     alloc: Global,
     out: &mut List<Sequent>,
-    q: &Sequent,
+    s: &SymState,
     fact: &Pure,
+    goal: &Pure,
 ) -> Result<(), AllocError>
-    ensures { OnOk result (out.new ≡ out.old ++ sequent (with_fact q.now.state fact.now) q.now.goal ∷ []) }
+    ensures { OnOk result (out.new ≡ out.old ++ sequent (with_fact s.now fact.now) goal.now ∷ []) }
 {
     let fact = fact.copy(alloc)?;
-    let state = q.state.with_fact(alloc, fact)?;
-    let goal = q.goal.copy(alloc)?;
+    let state = s.with_fact(alloc, fact)?;
+    let goal = goal.copy(alloc)?;
     out.push(Sequent { state, goal })
 }
 
 /// One fact, in the node's own state.
-pub(crate) fn one_goal(alloc: Global, q: &Sequent, p: &Pure) -> Result<List<Sequent>, AllocError>
-    ensures { IfOk result (λ r. r ≡ sequent q.now.state p.now ∷ []) }
+pub(crate) fn one_goal(alloc: Global, s: &SymState, p: &Pure) -> Result<List<Sequent>, AllocError>
+    ensures { IfOk result (λ r. r ≡ sequent s.now p.now ∷ []) }
 {
     let mut out = List::new(alloc);
-    push_goal(alloc, &mut out, &q.state, p)?;
+    push_goal(alloc, &mut out, s, p)?;
     Ok(out)
 }
 
 /// Two facts, in the node's own state.
 pub(crate) fn two_goals(
     alloc: Global,
-    q: &Sequent,
+    s: &SymState,
     first: &Pure,
     second: &Pure,
 ) -> Result<List<Sequent>, AllocError>
-    ensures { IfOk result (λ r. r ≡ sequent q.now.state first.now ∷ sequent q.now.state second.now ∷ []) }
+    ensures { IfOk result (λ r. r ≡ sequent s.now first.now ∷ sequent s.now second.now ∷ []) }
 {
     let mut out = List::new(alloc);
-    push_goal(alloc, &mut out, &q.state, first)?;
-    push_goal(alloc, &mut out, &q.state, second)?;
+    push_goal(alloc, &mut out, s, first)?;
+    push_goal(alloc, &mut out, s, second)?;
     Ok(out)
 }
 
 /// A fact, and the node's own goal with it.
 pub(crate) fn goal_and_known(
     alloc: Global,
-    q: &Sequent,
+    s: &SymState,
     p: &Pure,
+    goal: &Pure,
 ) -> Result<List<Sequent>, AllocError>
-    ensures { IfOk result (λ r. r ≡ sequent q.now.state p.now ∷ sequent (with_fact q.now.state p.now) q.now.goal ∷ []) }
+    ensures { IfOk result (λ r. r ≡ sequent s.now p.now ∷ sequent (with_fact s.now p.now) goal.now ∷ []) }
 {
     let mut out = List::new(alloc);
-    push_goal(alloc, &mut out, &q.state, p)?;
-    push_known(alloc, &mut out, q, p)?;
+    push_goal(alloc, &mut out, s, p)?;
+    push_known(alloc, &mut out, s, p, goal)?;
     Ok(out)
 }
 
 /// The node's own goal, with one fact and with another.
 pub(crate) fn either_known(
     alloc: Global,
-    q: &Sequent,
+    s: &SymState,
     first: &Pure,
     second: &Pure,
+    goal: &Pure,
 ) -> Result<List<Sequent>, AllocError>
-    ensures { IfOk result (λ r. r ≡ sequent (with_fact q.now.state first.now) q.now.goal ∷ sequent (with_fact q.now.state second.now) q.now.goal ∷ []) }
+    ensures { IfOk result (λ r. r ≡ sequent (with_fact s.now first.now) goal.now ∷ sequent (with_fact s.now second.now) goal.now ∷ []) }
 {
     let mut out = List::new(alloc);
-    push_known(alloc, &mut out, q, first)?;
-    push_known(alloc, &mut out, q, second)?;
+    push_known(alloc, &mut out, s, first, goal)?;
+    push_known(alloc, &mut out, s, second, goal)?;
     Ok(out)
 }
 

@@ -7,9 +7,8 @@ mod goals;
 pub mod laws;
 mod refusals;
 mod rules;
-mod same;
 mod verdict;
 
-pub use check::{check_pure, check_sequent};
+pub use check::{check_pure, check_sequent, fact_rule};
 pub use fault::Fault;
 pub use verdict::Verdict;

@@ -17,11 +17,11 @@ pub(crate) fn claim(s: &SymState, args: &[DArg], n: usize) -> Fault
     ensures { AnswersRule (Err result) (first_failure (claim_refused s.now args.now n)) }
 {
     if args.len() != 1 || n != 2 {
-        return Fault::Premise(1);
+        return Fault::Count;
     }
     match fact_given(s, args, 0) {
-        None => Fault::Premise(2),
-        Some(_) => Fault::Premise(3),
+        None => Fault::Argument,
+        Some(_) => Fault::Condition,
     }
 }
 
@@ -30,9 +30,9 @@ pub(crate) fn never(args: &[DArg], n: usize) -> Fault
     ensures { AnswersRule (Err result) (first_failure (never_refused args.now n)) }
 {
     if args.len() != 0 || n != 1 {
-        Fault::Premise(1)
+        Fault::Count
     } else {
-        Fault::Premise(3)
+        Fault::Condition
     }
 }
 
@@ -41,14 +41,14 @@ pub(crate) fn divide(alloc: Global, s: &SymState, args: &[DArg], n: usize) -> Fa
     ensures { AnswersRule (Err result) (first_failure (divide_refused s.now args.now n)) }
 {
     if args.len() != 2 || n != 2 {
-        return Fault::Premise(1);
+        return Fault::Count;
     }
     match atom_at(s, args, 0) {
-        None => Fault::Premise(2),
+        None => Fault::Argument,
         Some(_) => match word_at(alloc, s, args, 1) {
             Err(_) => Fault::Memory,
-            Ok(None) => Fault::Premise(2),
-            Ok(Some(_)) => Fault::Premise(3),
+            Ok(None) => Fault::Argument,
+            Ok(Some(_)) => Fault::Condition,
         },
     }
 }
@@ -58,13 +58,13 @@ pub(crate) fn merge(s: &SymState, args: &[DArg], n: usize) -> Fault
     ensures { AnswersRule (Err result) (first_failure (merge_refused s.now args.now n)) }
 {
     if args.len() != 2 || n != 2 {
-        return Fault::Premise(1);
+        return Fault::Count;
     }
     match atom_at(s, args, 0) {
-        None => Fault::Premise(2),
+        None => Fault::Argument,
         Some(_) => match atom_at(s, args, 1) {
-            None => Fault::Premise(2),
-            Some(_) => Fault::Premise(3),
+            None => Fault::Argument,
+            Some(_) => Fault::Condition,
         },
     }
 }
@@ -74,11 +74,11 @@ fn one_atom(s: &SymState, args: &[DArg], n: usize, children: usize) -> Fault
     ensures { AnswersRule (Err result) (first_failure (atom_refused s.now args.now n children)) }
 {
     if args.len() != 2 || n != children {
-        return Fault::Premise(1);
+        return Fault::Count;
     }
     match atom_at(s, args, 1) {
-        None => Fault::Premise(2),
-        Some(_) => Fault::Premise(3),
+        None => Fault::Argument,
+        Some(_) => Fault::Condition,
     }
 }
 
@@ -101,12 +101,12 @@ fn four_atoms(s: &SymState, args: &[DArg], n: usize) -> Fault
     ensures { AnswersRule (Err result) (first_failure (bytes_refused s.now args.now n)) }
 {
     if args.len() != 5 || n != 5 {
-        return Fault::Premise(1);
+        return Fault::Count;
     }
     if are_atoms(s, args) {
-        Fault::Premise(3)
+        Fault::Condition
     } else {
-        Fault::Premise(2)
+        Fault::Argument
     }
 }
 
@@ -120,7 +120,7 @@ fn shape_of(s: &SymState, args: &[DArg], n: usize, k: u32) -> Fault
         3 => one_atom(s, args, n, 2),
         4 => one_atom(s, args, n, 1),
         5 => one_atom(s, args, n, 2),
-        _ => Fault::Premise(2),
+        _ => Fault::Argument,
     }
 }
 
@@ -129,10 +129,10 @@ pub(crate) fn shape(s: &SymState, args: &[DArg], n: usize) -> Fault
     ensures { AnswersRule (Err result) (first_failure (shape_refused s.now args.now n)) }
 {
     if args.is_empty() {
-        return Fault::Premise(1);
+        return Fault::Count;
     }
     match number_at(args, 0) {
-        None => Fault::Premise(2),
+        None => Fault::Argument,
         Some(k) => shape_of(s, args, n, k),
     }
 }

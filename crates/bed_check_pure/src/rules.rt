@@ -1,196 +1,246 @@
-//! The rules for a fact, one by one: each tests its premises in their order.
+//! The rules for a fact, one by one: each tests its premises in their order. The goal is None where the node
+//! stands for the rest of a condition, which no rule for a fact proves.
 ghost use Rattle.std.specs.Option.{option_copied};
-ghost use Rattle.std.specs.Prelude.{◌≡◌, ◌==◌, not, ◌∷◌, [], Some, Ok, IfOk};
-ghost use Rattle.bed_lang.specs.SameFacts.{same_facts};
-ghost use Rattle.bed_deriv.specs.Checks.{first_failure, when, sequent, with_fact};
+ghost use Rattle.std.specs.Prelude.{◌≡◌, ◌∷◌, [], IfOk};
+ghost use Rattle.bed_deriv.specs.Checks.{first_failure, sequent, with_fact};
 ghost use Rattle.bed_deriv.specs.PureRules.{hyp, norm, order, order_goals, one_order, cut, carry, carry_goals, split, split_goals, contradiction, opposite_goal, distinct, distinct_from, apart, bound, bound_of, bound_goals, address};
-ghost use Rattle.bed_check_pure.specs.Faults.{AnswersRule};
+ghost use Rattle.bed_check_pure.specs.Faults.{AnswersRule, says, cut_goals};
 
 use crate::fault::Fault;
 use crate::goals::{either_known, goal_and_known, one_goal, two_goals};
-use crate::same::{by_norm, same_facts};
 use bed_deriv::arguments::{atom_at, fact_at, fact_given, number_at, numbered, word_at};
-use bed_deriv::{DArg, Sequent, negation};
+use bed_deriv::{DArg, Sequent, SymState, negation};
+use bed_forms::{by_norm, same_facts};
 use bed_lang::{Atom, Box, List, Pure, Word};
 use std::alloc::{AllocError, Global};
+
+// Whether the goal is the same as this fact.
+fn says(alloc: Global, goal: Option<&Pure>, p: &Pure) -> Result<List<Sequent>, Fault>
+    ensures { AnswersRule result (first_failure (says (option_copied goal.entry) p.now)) }
+{
+    match goal {
+        None => Err(Fault::Condition),
+        Some(g) => match same_facts(alloc, g, p) {
+            Err(_) => Err(Fault::Memory),
+            Ok(true) => Ok(List::new(alloc)),
+            Ok(false) => Err(Fault::Condition),
+        },
+    }
+}
 
 /// `hyp[i]`: the goal is the same as fact i.
 pub(crate) fn hyp(
     alloc: Global,
-    q: &Sequent,
+    s: &SymState,
+    goal: Option<&Pure>,
     args: &[DArg],
     n: usize,
 ) -> Result<List<Sequent>, Fault>
-    ensures { AnswersRule result (first_failure (hyp q.now.state (Some q.now.goal) args.now n)) }
+    ensures { AnswersRule result (first_failure (hyp s.now (option_copied goal.entry) args.now n)) }
 {
     if args.len() != 1 || n != 0 {
-        return Err(Fault::Premise(1));
+        return Err(Fault::Count);
     }
-    match fact_at(&q.state, args, 0) {
-        None => Err(Fault::Premise(2)),
-        Some(p) => match same_facts(alloc, &q.goal, p) {
-            Err(_) => Err(Fault::Memory),
-            Ok(true) => Ok(List::new(alloc)),
-            Ok(false) => Err(Fault::Premise(3)),
-        },
+    match fact_at(s, args, 0) {
+        None => Err(Fault::Argument),
+        Some(p) => says(alloc, goal, p),
     }
 }
 
 /// `norm`: the goal holds by its normal form.
 pub(crate) fn norm(
     alloc: Global,
-    q: &Sequent,
+    goal: Option<&Pure>,
     args: &[DArg],
     n: usize,
 ) -> Result<List<Sequent>, Fault>
-    ensures { AnswersRule result (first_failure (norm (Some q.now.goal) args.now n)) }
+    ensures { AnswersRule result (first_failure (norm (option_copied goal.entry) args.now n)) }
 {
     if args.len() != 0 || n != 0 {
-        return Err(Fault::Premise(1));
+        return Err(Fault::Count);
     }
-    match by_norm(alloc, &q.goal) {
-        Err(_) => Err(Fault::Memory),
-        Ok(true) => Ok(List::new(alloc)),
-        Ok(false) => Err(Fault::Premise(3)),
+    match goal {
+        None => Err(Fault::Condition),
+        Some(g) => match by_norm(alloc, g) {
+            Err(_) => Err(Fault::Memory),
+            Ok(true) => Ok(List::new(alloc)),
+            Ok(false) => Err(Fault::Condition),
+        },
     }
 }
 
 // The goals `a <= b` and `b <= a`.
-fn both_orders(alloc: Global, q: &Sequent, a: &Word, b: &Word) -> Result<List<Sequent>, AllocError>
-    ensures { IfOk result (λ r. r ≡ sequent q.now.state (Pure.AtMost a.now b.now) ∷ sequent q.now.state (Pure.AtMost b.now a.now) ∷ []) }
+fn both_orders(alloc: Global, s: &SymState, a: &Word, b: &Word) -> Result<List<Sequent>, AllocError>
+    ensures { IfOk result (λ r. r ≡ sequent s.now (Pure.AtMost a.now b.now) ∷ sequent s.now (Pure.AtMost b.now a.now) ∷ []) }
 {
-    let first = Pure::AtMost(a.copy(alloc)?, b.copy(alloc)?);
-    let second = Pure::AtMost(b.copy(alloc)?, a.copy(alloc)?);
-    two_goals(alloc, q, &first, &second)
+    let first = at_most(alloc, a, b)?;
+    let second = at_most(alloc, b, a)?;
+    two_goals(alloc, s, &first, &second)
+}
+
+fn at_most(alloc: Global, a: &Word, b: &Word) -> Result<Pure, AllocError>
+    ensures { IfOk result (λ r. r ≡ Pure.AtMost a.now b.now) }
+{
+    let a = a.copy(alloc)?;
+    let b = b.copy(alloc)?;
+    Ok(Pure::AtMost(a, b))
+}
+
+fn less(alloc: Global, a: &Word, b: &Word) -> Result<Pure, AllocError>
+    ensures { IfOk result (λ r. r ≡ Pure.Less a.now b.now) }
+{
+    let a = a.copy(alloc)?;
+    let b = b.copy(alloc)?;
+    Ok(Pure::Less(a, b))
 }
 
 // `a < b` where k is 1, else `b < a`.
 fn one_order(alloc: Global, k: u32, a: &Word, b: &Word) -> Result<Pure, AllocError>
     ensures { IfOk result (λ r. r ≡ one_order k a.now b.now) }
 {
-    let first = a.copy(alloc)?;
-    let second = b.copy(alloc)?;
     if k == 1 {
-        Ok(Pure::Less(first, second))
+        less(alloc, a, b)
     } else {
-        Ok(Pure::Less(second, first))
+        less(alloc, b, a)
     }
 }
 
-// The fact, to be proved where k isn't 0.
-fn unless_0(alloc: Global, q: &Sequent, k: u32, p: Pure) -> Result<List<Sequent>, Fault>
-    ensures { AnswersRule result (when (not (k == 0)) 3 (Ok (sequent q.now.state p ∷ []))) }
+// A fact to be proved.
+fn goal_alone(alloc: Global, s: &SymState, p: Pure) -> Result<List<Sequent>, AllocError>
+    ensures { IfOk result (λ r. r ≡ sequent s.now p ∷ []) }
 {
-    if k == 0 {
-        return Err(Fault::Premise(3));
-    }
-    match goal_alone(alloc, q, p) {
-        Ok(goals) => Ok(goals),
-        Err(_) => Err(Fault::Memory),
-    }
+    one_goal(alloc, s, &p)
+}
+
+// One of the orders, which makes an inequality.
+fn one_order_goal(
+    alloc: Global,
+    s: &SymState,
+    k: u32,
+    a: &Word,
+    b: &Word,
+) -> Result<List<Sequent>, AllocError>
+    ensures { IfOk result (λ r. r ≡ sequent s.now (one_order k a.now b.now) ∷ []) }
+{
+    let p = one_order(alloc, k, a, b)?;
+    goal_alone(alloc, s, p)
 }
 
 // The goals that `order[k]` leaves for an inequality.
 fn unequal_goals(
     alloc: Global,
-    q: &Sequent,
+    s: &SymState,
     k: u32,
     a: &Word,
     b: &Word,
 ) -> Result<List<Sequent>, Fault>
-    ensures { AnswersRule result (first_failure (order_goals q.now.state k (Pure.Unequal a.now b.now))) }
+    ensures { AnswersRule result (first_failure (order_goals s.now k (Pure.Unequal a.now b.now))) }
 {
-    match one_order(alloc, k, a, b) {
+    if k == 0 {
+        return Err(Fault::Condition);
+    }
+    match one_order_goal(alloc, s, k, a, b) {
+        Ok(goals) => Ok(goals),
         Err(_) => Err(Fault::Memory),
-        Ok(p) => unless_0(alloc, q, k, p),
     }
 }
 
 // The goals that `order[k]` leaves for an equation.
 fn equal_goals(
     alloc: Global,
-    q: &Sequent,
+    s: &SymState,
     k: u32,
     a: &Word,
     b: &Word,
 ) -> Result<List<Sequent>, Fault>
-    ensures { AnswersRule result (first_failure (order_goals q.now.state k (Pure.Equal a.now b.now))) }
+    ensures { AnswersRule result (first_failure (order_goals s.now k (Pure.Equal a.now b.now))) }
 {
     if k != 0 {
-        return Err(Fault::Premise(3));
+        return Err(Fault::Condition);
     }
-    match both_orders(alloc, q, a, b) {
+    match both_orders(alloc, s, a, b) {
         Ok(goals) => Ok(goals),
         Err(_) => Err(Fault::Memory),
     }
 }
 
 // The goals that `order[k]` leaves, by the goal's kind.
-fn order_goals(alloc: Global, q: &Sequent, k: u32) -> Result<List<Sequent>, Fault>
-    ensures { AnswersRule result (first_failure (order_goals q.now.state k q.now.goal)) }
+fn order_goals(alloc: Global, s: &SymState, goal: &Pure, k: u32) -> Result<List<Sequent>, Fault>
+    ensures { AnswersRule result (first_failure (order_goals s.now k goal.now)) }
 {
-    match &q.goal {
-        Pure::Equal(a, b) => equal_goals(alloc, q, k, a, b),
-        Pure::Unequal(a, b) => unequal_goals(alloc, q, k, a, b),
-        _ => Err(Fault::Premise(3)),
+    match goal {
+        Pure::Equal(a, b) => equal_goals(alloc, s, k, a, b),
+        Pure::Unequal(a, b) => unequal_goals(alloc, s, k, a, b),
+        _ => Err(Fault::Condition),
     }
 }
 
 /// `order[0]`: an equation by both orders; `order[1]` and `order[2]`: an inequality by one of them.
 pub(crate) fn order(
     alloc: Global,
-    q: &Sequent,
+    s: &SymState,
+    goal: Option<&Pure>,
     args: &[DArg],
     n: usize,
 ) -> Result<List<Sequent>, Fault>
-    ensures { AnswersRule result (first_failure (order q.now.state (Some q.now.goal) args.now n)) }
+    ensures { AnswersRule result (first_failure (order s.now (option_copied goal.entry) args.now n)) }
 {
     if args.len() != 1 {
-        return Err(Fault::Premise(1));
+        return Err(Fault::Count);
     }
     match number_at(args, 0) {
-        None => Err(Fault::Premise(2)),
+        None => Err(Fault::Argument),
         Some(k) => {
             if k >= 3 {
-                return Err(Fault::Premise(2));
+                return Err(Fault::Argument);
             }
             let children = if k == 0 { 2 } else { 1 };
             if n != children {
-                return Err(Fault::Premise(1));
+                return Err(Fault::Count);
             }
-            order_goals(alloc, q, k)
+            match goal {
+                None => Err(Fault::Condition),
+                Some(g) => order_goals(alloc, s, g, k),
+            }
         }
     }
 }
 
-/// `cut[φ]`: the fact, and the goal with it.
-pub(crate) fn cut(
+// What `cut` leaves.
+fn cut_goals(
     alloc: Global,
-    q: &Sequent,
-    args: &[DArg],
-    n: usize,
+    s: &SymState,
+    goal: Option<&Pure>,
+    p: &Pure,
 ) -> Result<List<Sequent>, Fault>
-    ensures { AnswersRule result (first_failure (cut q.now.state (Some q.now.goal) args.now n)) }
+    ensures { AnswersRule result (first_failure (cut_goals s.now (option_copied goal.entry) p.now)) }
 {
-    if args.len() != 1 || n != 2 {
-        return Err(Fault::Premise(1));
-    }
-    match fact_given(&q.state, args, 0) {
-        None => Err(Fault::Premise(2)),
-        Some(p) => match goal_and_known(alloc, q, p) {
+    match goal {
+        None => Err(Fault::Condition),
+        Some(g) => match goal_and_known(alloc, s, p, g) {
             Ok(goals) => Ok(goals),
             Err(_) => Err(Fault::Memory),
         },
     }
 }
 
-// The goal with `e < e + c`, and with `e + c < e`.
-fn carried(alloc: Global, q: &Sequent, e: &Word, c: u32) -> Result<List<Sequent>, AllocError>
-    ensures { IfOk result (λ r. r ≡ sequent (with_fact q.now.state (Pure.Less e.now (Word.Add e.now (Word.Number c)))) q.now.goal ∷ sequent (with_fact q.now.state (Pure.Less (Word.Add e.now (Word.Number c)) e.now)) q.now.goal ∷ []) }
+/// `cut[φ]`: the fact, and the goal with it.
+pub(crate) fn cut(
+    alloc: Global,
+    s: &SymState,
+    goal: Option<&Pure>,
+    args: &[DArg],
+    n: usize,
+) -> Result<List<Sequent>, Fault>
+    ensures { AnswersRule result (first_failure (cut s.now (option_copied goal.entry) args.now n)) }
 {
-    let up = Pure::Less(e.copy(alloc)?, sum(alloc, e, c)?);
-    let down = Pure::Less(sum(alloc, e, c)?, e.copy(alloc)?);
-    either_known(alloc, q, &up, &down)
+    if args.len() != 1 || n != 2 {
+        return Err(Fault::Count);
+    }
+    match fact_given(s, args, 0) {
+        None => Err(Fault::Argument),
+        Some(p) => cut_goals(alloc, s, goal, p),
+    }
 }
 
 fn sum(alloc: Global, e: &Word, c: u32) -> Result<Word, AllocError>
@@ -201,37 +251,78 @@ fn sum(alloc: Global, e: &Word, c: u32) -> Result<Word, AllocError>
     Ok(Word::Add(e, c))
 }
 
+fn below_sum(alloc: Global, e: &Word, c: u32) -> Result<Pure, AllocError>
+    ensures { IfOk result (λ r. r ≡ Pure.Less e.now (Word.Add e.now (Word.Number c))) }
+{
+    let total = sum(alloc, e, c)?;
+    let e = e.copy(alloc)?;
+    Ok(Pure::Less(e, total))
+}
+
+fn above_sum(alloc: Global, e: &Word, c: u32) -> Result<Pure, AllocError>
+    ensures { IfOk result (λ r. r ≡ Pure.Less (Word.Add e.now (Word.Number c)) e.now) }
+{
+    let total = sum(alloc, e, c)?;
+    let e = e.copy(alloc)?;
+    Ok(Pure::Less(total, e))
+}
+
+// The goal with `e < e + c`, and with `e + c < e`.
+fn carried(
+    alloc: Global,
+    s: &SymState,
+    goal: &Pure,
+    e: &Word,
+    c: u32,
+) -> Result<List<Sequent>, AllocError>
+    ensures { IfOk result (λ r. r ≡ sequent (with_fact s.now (Pure.Less e.now (Word.Add e.now (Word.Number c)))) goal.now ∷ sequent (with_fact s.now (Pure.Less (Word.Add e.now (Word.Number c)) e.now)) goal.now ∷ []) }
+{
+    let up = below_sum(alloc, e, c)?;
+    let down = above_sum(alloc, e, c)?;
+    either_known(alloc, s, &up, &down, goal)
+}
+
 // What `carry` leaves, by its number.
-fn carry_goals(alloc: Global, q: &Sequent, e: &Word, c: u32) -> Result<List<Sequent>, Fault>
-    ensures { AnswersRule result (first_failure (carry_goals q.now.state (Some q.now.goal) e.now c)) }
+fn carry_goals(
+    alloc: Global,
+    s: &SymState,
+    goal: Option<&Pure>,
+    e: &Word,
+    c: u32,
+) -> Result<List<Sequent>, Fault>
+    ensures { AnswersRule result (first_failure (carry_goals s.now (option_copied goal.entry) e.now c)) }
 {
     if c == 0 {
-        return Err(Fault::Premise(3));
+        return Err(Fault::Condition);
     }
-    match carried(alloc, q, e, c) {
-        Ok(goals) => Ok(goals),
-        Err(_) => Err(Fault::Memory),
+    match goal {
+        None => Err(Fault::Condition),
+        Some(g) => match carried(alloc, s, g, e, c) {
+            Ok(goals) => Ok(goals),
+            Err(_) => Err(Fault::Memory),
+        },
     }
 }
 
 /// `carry[e, c]`: a sum with c, which isn't 0, is above e or below it.
 pub(crate) fn carry(
     alloc: Global,
-    q: &Sequent,
+    s: &SymState,
+    goal: Option<&Pure>,
     args: &[DArg],
     n: usize,
 ) -> Result<List<Sequent>, Fault>
-    ensures { AnswersRule result (first_failure (carry q.now.state (Some q.now.goal) args.now n)) }
+    ensures { AnswersRule result (first_failure (carry s.now (option_copied goal.entry) args.now n)) }
 {
     if args.len() != 2 || n != 2 {
-        return Err(Fault::Premise(1));
+        return Err(Fault::Count);
     }
-    match word_at(alloc, &q.state, args, 0) {
+    match word_at(alloc, s, args, 0) {
         Err(_) => Err(Fault::Memory),
-        Ok(None) => Err(Fault::Premise(2)),
+        Ok(None) => Err(Fault::Argument),
         Ok(Some(e)) => match number_at(args, 1) {
-            None => Err(Fault::Premise(2)),
-            Some(c) => carry_goals(alloc, q, &e, c),
+            None => Err(Fault::Argument),
+            Some(c) => carry_goals(alloc, s, goal, &e, c),
         },
     }
 }
@@ -239,36 +330,34 @@ pub(crate) fn carry(
 // The goal with a fact, and with another.
 fn both_known(
     alloc: Global,
-    q: &Sequent,
+    s: &SymState,
     first: &Pure,
     second: Pure,
+    goal: &Pure,
 ) -> Result<List<Sequent>, AllocError>
-    ensures { IfOk result (λ r. r ≡ sequent (with_fact q.now.state first.now) q.now.goal ∷ sequent (with_fact q.now.state second) q.now.goal ∷ []) }
+    ensures { IfOk result (λ r. r ≡ sequent (with_fact s.now first.now) goal.now ∷ sequent (with_fact s.now second) goal.now ∷ []) }
 {
-    either_known(alloc, q, first, &second)
-}
-
-// A fact to be proved.
-fn goal_alone(alloc: Global, q: &Sequent, p: Pure) -> Result<List<Sequent>, AllocError>
-    ensures { IfOk result (λ r. r ≡ sequent q.now.state p ∷ []) }
-{
-    one_goal(alloc, q, &p)
+    either_known(alloc, s, first, &second, goal)
 }
 
 // What `split` leaves, by the negation of its fact.
 fn split_goals(
     alloc: Global,
-    q: &Sequent,
+    s: &SymState,
+    goal: Option<&Pure>,
     p: &Pure,
     other: Option<Pure>,
 ) -> Result<List<Sequent>, Fault>
-    ensures { AnswersRule result (first_failure (split_goals q.now.state (Some q.now.goal) p.now other)) }
+    ensures { AnswersRule result (first_failure (split_goals s.now (option_copied goal.entry) p.now other)) }
 {
     match other {
-        None => Err(Fault::Premise(3)),
-        Some(other) => match both_known(alloc, q, p, other) {
-            Ok(goals) => Ok(goals),
-            Err(_) => Err(Fault::Memory),
+        None => Err(Fault::Condition),
+        Some(other) => match goal {
+            None => Err(Fault::Condition),
+            Some(g) => match both_known(alloc, s, p, other, g) {
+                Ok(goals) => Ok(goals),
+                Err(_) => Err(Fault::Memory),
+            },
         },
     }
 }
@@ -276,33 +365,42 @@ fn split_goals(
 /// `split[φ]`: the goal with the fact, and with its negation.
 pub(crate) fn split(
     alloc: Global,
-    q: &Sequent,
+    s: &SymState,
+    goal: Option<&Pure>,
     args: &[DArg],
     n: usize,
 ) -> Result<List<Sequent>, Fault>
-    ensures { AnswersRule result (first_failure (split q.now.state (Some q.now.goal) args.now n)) }
+    ensures { AnswersRule result (first_failure (split s.now (option_copied goal.entry) args.now n)) }
 {
     if args.len() != 1 || n != 2 {
-        return Err(Fault::Premise(1));
+        return Err(Fault::Count);
     }
-    match fact_given(&q.state, args, 0) {
-        None => Err(Fault::Premise(2)),
+    match fact_given(s, args, 0) {
+        None => Err(Fault::Argument),
         Some(p) => match negation(alloc, p) {
             Err(_) => Err(Fault::Memory),
-            Ok(other) => split_goals(alloc, q, p, other),
+            Ok(other) => split_goals(alloc, s, goal, p, other),
         },
     }
 }
 
 // What `absurd` leaves, by the negation of its fact.
-fn opposite_goal(alloc: Global, q: &Sequent, other: Option<Pure>) -> Result<List<Sequent>, Fault>
-    ensures { AnswersRule result (first_failure (opposite_goal q.now.state (Some q.now.goal) other)) }
+fn opposite_goal(
+    alloc: Global,
+    s: &SymState,
+    goal: Option<&Pure>,
+    other: Option<Pure>,
+) -> Result<List<Sequent>, Fault>
+    ensures { AnswersRule result (first_failure (opposite_goal s.now (option_copied goal.entry) other)) }
 {
     match other {
-        None => Err(Fault::Premise(3)),
-        Some(other) => match goal_alone(alloc, q, other) {
-            Ok(goals) => Ok(goals),
-            Err(_) => Err(Fault::Memory),
+        None => Err(Fault::Condition),
+        Some(other) => match goal {
+            None => Err(Fault::Condition),
+            Some(_) => match goal_alone(alloc, s, other) {
+                Ok(goals) => Ok(goals),
+                Err(_) => Err(Fault::Memory),
+            },
         },
     }
 }
@@ -310,20 +408,21 @@ fn opposite_goal(alloc: Global, q: &Sequent, other: Option<Pure>) -> Result<List
 /// `absurd[i]`: the negation of fact i.
 pub(crate) fn contradiction(
     alloc: Global,
-    q: &Sequent,
+    s: &SymState,
+    goal: Option<&Pure>,
     args: &[DArg],
     n: usize,
 ) -> Result<List<Sequent>, Fault>
-    ensures { AnswersRule result (first_failure (contradiction q.now.state (Some q.now.goal) args.now n)) }
+    ensures { AnswersRule result (first_failure (contradiction s.now (option_copied goal.entry) args.now n)) }
 {
     if args.len() != 1 || n != 1 {
-        return Err(Fault::Premise(1));
+        return Err(Fault::Count);
     }
-    match fact_at(&q.state, args, 0) {
-        None => Err(Fault::Premise(2)),
+    match fact_at(s, args, 0) {
+        None => Err(Fault::Argument),
         Some(p) => match negation(alloc, p) {
             Err(_) => Err(Fault::Memory),
-            Ok(other) => opposite_goal(alloc, q, other),
+            Ok(other) => opposite_goal(alloc, s, goal, other),
         },
     }
 }
@@ -339,34 +438,38 @@ fn address(x: &Atom) -> Option<&Word>
     }
 }
 
-// Whether the goal says that two words differ.
-fn says_apart(alloc: Global, goal: &Pure, a: &Word, b: &Word) -> Result<bool, AllocError>
-    ensures { IfOk result (λ r. r ≡ same_facts goal.now (Pure.Unequal a.now b.now)) }
+fn unequal(alloc: Global, a: &Word, b: &Word) -> Result<Pure, AllocError>
+    ensures { IfOk result (λ r. r ≡ Pure.Unequal a.now b.now) }
 {
-    let apart = Pure::Unequal(a.copy(alloc)?, b.copy(alloc)?);
-    same_facts(alloc, goal, &apart)
+    let a = a.copy(alloc)?;
+    let b = b.copy(alloc)?;
+    Ok(Pure::Unequal(a, b))
 }
 
 // Whether the goal is that these two words differ.
-fn apart_words(alloc: Global, goal: &Pure, a: &Word, b: &Word) -> Result<List<Sequent>, Fault>
-    ensures { AnswersRule result (when (same_facts goal.now (Pure.Unequal a.now b.now)) 3 (Ok [])) }
+fn says_apart(
+    alloc: Global,
+    goal: Option<&Pure>,
+    a: &Word,
+    b: &Word,
+) -> Result<List<Sequent>, Fault>
+    ensures { AnswersRule result (first_failure (says (option_copied goal.entry) (Pure.Unequal a.now b.now))) }
 {
-    match says_apart(alloc, goal, a, b) {
+    match unequal(alloc, a, b) {
         Err(_) => Err(Fault::Memory),
-        Ok(true) => Ok(List::new(alloc)),
-        Ok(false) => Err(Fault::Premise(3)),
+        Ok(p) => says(alloc, goal, &p),
     }
 }
 
 // Whether the goal is that the addresses of two cells or bytes differ.
-fn apart(alloc: Global, goal: &Pure, x: &Atom, y: &Atom) -> Result<List<Sequent>, Fault>
-    ensures { AnswersRule result (first_failure (apart (Some goal.now) x.now y.now)) }
+fn apart(alloc: Global, goal: Option<&Pure>, x: &Atom, y: &Atom) -> Result<List<Sequent>, Fault>
+    ensures { AnswersRule result (first_failure (apart (option_copied goal.entry) x.now y.now)) }
 {
     match address(x) {
-        None => Err(Fault::Premise(3)),
+        None => Err(Fault::Condition),
         Some(a) => match address(y) {
-            None => Err(Fault::Premise(3)),
-            Some(b) => apart_words(alloc, goal, a, b),
+            None => Err(Fault::Condition),
+            Some(b) => says_apart(alloc, goal, a, b),
         },
     }
 }
@@ -374,22 +477,23 @@ fn apart(alloc: Global, goal: &Pure, x: &Atom, y: &Atom) -> Result<List<Sequent>
 // Whether the goal is that the address of atom i differs from that of the second atom.
 fn distinct_from(
     alloc: Global,
-    q: &Sequent,
+    s: &SymState,
+    goal: Option<&Pure>,
     args: &[DArg],
     i: u32,
     x: &Atom,
 ) -> Result<List<Sequent>, Fault>
-    ensures { AnswersRule result (first_failure (distinct_from q.now.state (Some q.now.goal) args.now i x.now)) }
+    ensures { AnswersRule result (first_failure (distinct_from s.now (option_copied goal.entry) args.now i x.now)) }
 {
     match number_at(args, 1) {
-        None => Err(Fault::Premise(2)),
-        Some(j) => match numbered(q.state.atoms.as_slice(), j) {
-            None => Err(Fault::Premise(2)),
+        None => Err(Fault::Argument),
+        Some(j) => match numbered(s.atoms.as_slice(), j) {
+            None => Err(Fault::Argument),
             Some(y) => {
                 if i == j {
-                    Err(Fault::Premise(3))
+                    Err(Fault::Condition)
                 } else {
-                    apart(alloc, &q.goal, x, y)
+                    apart(alloc, goal, x, y)
                 }
             }
         },
@@ -399,20 +503,21 @@ fn distinct_from(
 /// `distinct[i, j]`: the addresses of two different cells or bytes differ.
 pub(crate) fn distinct(
     alloc: Global,
-    q: &Sequent,
+    s: &SymState,
+    goal: Option<&Pure>,
     args: &[DArg],
     n: usize,
 ) -> Result<List<Sequent>, Fault>
-    ensures { AnswersRule result (first_failure (distinct q.now.state (Some q.now.goal) args.now n)) }
+    ensures { AnswersRule result (first_failure (distinct s.now (option_copied goal.entry) args.now n)) }
 {
     if args.len() != 2 || n != 0 {
-        return Err(Fault::Premise(1));
+        return Err(Fault::Count);
     }
     match number_at(args, 0) {
-        None => Err(Fault::Premise(2)),
-        Some(i) => match numbered(q.state.atoms.as_slice(), i) {
-            None => Err(Fault::Premise(2)),
-            Some(x) => distinct_from(alloc, q, args, i, x),
+        None => Err(Fault::Argument),
+        Some(i) => match numbered(s.atoms.as_slice(), i) {
+            None => Err(Fault::Argument),
+            Some(x) => distinct_from(alloc, s, goal, args, i, x),
         },
     }
 }
@@ -429,36 +534,37 @@ fn bound_of(alloc: Global, x: &Atom) -> Result<Option<Pure>, AllocError>
 }
 
 // Whether the goal is what a bound says.
-fn bound_goals(alloc: Global, goal: &Pure, limit: Option<Pure>) -> Result<List<Sequent>, Fault>
-    ensures { AnswersRule result (first_failure (bound_goals (Some goal.now) limit)) }
+fn bound_goals(
+    alloc: Global,
+    goal: Option<&Pure>,
+    limit: Option<Pure>,
+) -> Result<List<Sequent>, Fault>
+    ensures { AnswersRule result (first_failure (bound_goals (option_copied goal.entry) limit)) }
 {
     match limit {
-        None => Err(Fault::Premise(3)),
-        Some(p) => match same_facts(alloc, goal, &p) {
-            Err(_) => Err(Fault::Memory),
-            Ok(true) => Ok(List::new(alloc)),
-            Ok(false) => Err(Fault::Premise(3)),
-        },
+        None => Err(Fault::Condition),
+        Some(p) => says(alloc, goal, &p),
     }
 }
 
 /// `bound[i]`: the address of a cell, or the content of a byte, isn't above what it can be.
 pub(crate) fn bound(
     alloc: Global,
-    q: &Sequent,
+    s: &SymState,
+    goal: Option<&Pure>,
     args: &[DArg],
     n: usize,
 ) -> Result<List<Sequent>, Fault>
-    ensures { AnswersRule result (first_failure (bound q.now.state (Some q.now.goal) args.now n)) }
+    ensures { AnswersRule result (first_failure (bound s.now (option_copied goal.entry) args.now n)) }
 {
     if args.len() != 1 || n != 0 {
-        return Err(Fault::Premise(1));
+        return Err(Fault::Count);
     }
-    match atom_at(&q.state, args, 0) {
-        None => Err(Fault::Premise(2)),
+    match atom_at(s, args, 0) {
+        None => Err(Fault::Argument),
         Some(x) => match bound_of(alloc, x) {
             Err(_) => Err(Fault::Memory),
-            Ok(limit) => bound_goals(alloc, &q.goal, limit),
+            Ok(limit) => bound_goals(alloc, goal, limit),
         },
     }
 }

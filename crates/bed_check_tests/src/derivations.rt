@@ -9,7 +9,7 @@ use std::test::Fail;
 /// Goals, and trees with the first node that is refused and its premise; `(0, 0)` where none is. The
 /// state's next fresh variable is 9, its facts are `x < y`, `y <= x` and `nil == nil`, its atoms `p |-> 1`,
 /// `q |->b w` and `block(r, 2)`.
-const CASES: [(u8, &str, u32, u8); 38] = [
+const CASES: [(u8, &str, u32, u8); 47] = [
     (b'0', "1H02A1", 0, 0),
     (b'l', "1H0", 0, 0),
     (b'l', "H0", 1, 1),
@@ -20,6 +20,15 @@ const CASES: [(u8, &str, u32, u8); 38] = [
     (b't', "N0", 0, 0),
     (b't', "1N0", 1, 1),
     (b'l', "N0", 1, 3),
+    (b'z', "N0", 0, 0),
+    (b'w', "N0", 0, 0),
+    (b'c', "N0", 0, 0),
+    (b'k', "N0", 1, 3),
+    (b'n', "N0", 0, 0),
+    (b'h', "N0", 1, 3),
+    (b's', "N0", 0, 0),
+    (b'o', "N0", 0, 0),
+    (b'j', "1H02A11H02A10O24H0iC2", 0, 0),
     (b'e', "1H02A11H02A10O2", 0, 0),
     (b'e', "1H02A10O1", 1, 1),
     (b'e', "1H02A11H02A13O2", 1, 2),

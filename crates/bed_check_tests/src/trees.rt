@@ -1,8 +1,8 @@
 //! Derivations written as texts.
 //!
 //! A tree is written with its children first. Digits are arguments that are numbers, `f` is the fact
-//! `x < y`, `s` the fact `nil == nil`, `e` the word x and `g` the fresh variable 9. A capital letter is a
-//! rule and takes the arguments before it and as many trees as the digit after it says: H hyp, N norm, O
+//! `x < y`, `s` the fact `nil == nil`, `i` the fact `x = y`, `e` the word x and `g` the fresh variable 9. A
+//! capital letter is a rule and takes the arguments before it and as many trees as the digit after it says: H hyp, N norm, O
 //! order, C cut, R carry, S split, A absurd, D distinct, B bound, X comb; L claim, W when, E never, U
 //! unfold, V divide, M merge, P shape; F finish.
 use bed_deriv::{DArg, Deriv, Rule};
@@ -33,6 +33,14 @@ fn at_most_number(alloc: Global, a: u8, most: u32) -> Result<Pure, AllocError> {
     Ok(Pure::AtMost(word(alloc, a)?, Word::Number(most)))
 }
 
+fn at_least_0(alloc: Global, a: u8) -> Result<Pure, AllocError> {
+    Ok(Pure::AtMost(Word::Number(0), word(alloc, a)?))
+}
+
+fn not_in_nil(alloc: Global, a: u8) -> Result<Pure, AllocError> {
+    Ok(Pure::NonMember(word(alloc, a)?, Seq::Nil))
+}
+
 fn equal(alloc: Global, a: u8, b: u8) -> Result<Pure, AllocError> {
     Ok(Pure::Equal(word(alloc, a)?, word(alloc, b)?))
 }
@@ -53,6 +61,15 @@ pub(crate) fn fact(alloc: Global, letter: u8) -> Result<Pure, AllocError> {
         b'd' => unequal(alloc, b'p', b'q'),
         b'b' => at_most_number(alloc, b'p', 4_294_967_292),
         b'v' => at_most_number(alloc, b'w', 255),
+        b'w' => at_most_number(alloc, b'x', 4_294_967_295),
+        b'z' => at_least_0(alloc, b'x'),
+        b'i' => equal(alloc, b'x', b'y'),
+        b'j' => equal(alloc, b'y', b'x'),
+        b'h' => unequal(alloc, b'x', b'x'),
+        b'o' => not_in_nil(alloc, b'x'),
+        b'c' => Ok(Pure::Less(Word::Number(1), Word::Number(2))),
+        b'k' => Ok(Pure::Less(Word::Number(2), Word::Number(2))),
+        b'n' => Ok(Pure::Unequal(Word::Number(1), Word::Number(2))),
         _ => Ok(Pure::Equal(Word::Number(1), Word::Number(0))),
     }
 }
@@ -100,7 +117,7 @@ fn rule(letter: u8) -> Option<Rule> {
 
 fn argument(alloc: Global, letter: u8) -> Result<DArg, AllocError> {
     match letter {
-        b'f' | b's' => Ok(DArg::Pure(fact(alloc, letter)?)),
+        b'f' | b's' | b'i' => Ok(DArg::Pure(fact(alloc, letter)?)),
         b'g' => Ok(DArg::Arg(Arg::Word(0, Word::Var(Var::Fresh(9))))),
         b'e' => Ok(DArg::Arg(Arg::Word(0, word(alloc, b'x')?))),
         _ => Ok(DArg::Number(u32::from(letter.wrapping_sub(b'0')))),

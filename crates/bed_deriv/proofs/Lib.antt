@@ -1,2 +1,6 @@
 pub mod KnownLaws
 pub mod StartLaws
+mod ReadLemmas
+mod PrefixLemmas
+mod LeftLemmas
+mod CountLemmas

@@ -17,7 +17,11 @@ use Rattle.bed_deriv.specs.PureRules.{hyp, norm, comb, solve, order, cut, carry,
 use Rattle.bed_deriv.specs.ListRules.{uncons, void, member, lacks, part, one}
 use Rattle.bed_deriv.specs.Chains.{chain}
 use Rattle.bed_deriv.specs.HeapRules.{claim, case_split, never, unfold_rule, fold_rule, append_rule, divide, merge, shape}
-use Rattle.bed_deriv.specs.Steps.{Rest, Onward, onward_of, step, finish}
+use Rattle.bed_deriv.specs.declared.rest.Rest.{Rest}
+use Rattle.bed_deriv.specs.declared.rest.Onward.{Onward}
+use Rattle.bed_deriv.specs.declared.rest.Task.{Task}
+use Rattle.bed_deriv.specs.declared.rest.Task.TheVariants.{Proves, Closes}
+use Rattle.bed_deriv.specs.Steps.{onward_of, step, finish}
 use Rattle.bed_deriv.specs.Walk.{Table, Walked, walk}
 
 -- the rules for a fact
@@ -80,11 +84,6 @@ purpose _ = ForFacts
 -- a goal in a state, for rules that prove facts
 abbrev pub fact_table : Decls → Table Sequent
 fact_table d r q args n = outcome (pure_rule d r q.state (Some q.goal) args n)
-
--- what a node stands for: a fact in a state, or the rest of a condition
-pub data Task : Type 0 where
-  Proves : Sequent → Task
-  Closes : Rest → Task
 
 -- a rule for facts never meets its own condition at the rest of a condition, nor any other rule at a fact
 abbrev pub refused : {A B : Type 0} → Result A ℕ → Result B ℕ

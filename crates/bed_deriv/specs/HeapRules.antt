@@ -23,7 +23,7 @@ use Rattle.bed_deriv.specs.declared.derivation.DArg.{DArg}
 use Rattle.bed_deriv.specs.declared.state.SymState.{SymState}
 use Rattle.bed_lang.specs.SameFacts.{negation}
 use Rattle.bed_deriv.specs.Arguments.{numbered, at_number, number_at, name_at, word_at, fact_given, to_values, counts}
-use Rattle.bed_deriv.specs.Opening.{alone, opened}
+use Rattle.bed_deriv.specs.Opening.{alone, opened_anew}
 use Rattle.bed_deriv.specs.Matches.{count_of_goals, count_of_atoms, chosen, all_different, atoms_left, match_goals}
 use Rattle.bed_deriv.specs.Checks.{Step, Needs, Given, Fails, leaves, with_fact}
 
@@ -67,7 +67,8 @@ params_with [] args = []
 params_with (b ∷ bs) [] = []
 params_with (b ∷ bs) (a ∷ args) = (b.name, a) ∷ params_with bs args
 
--- unfold[i]: atom i is a predicate's. One child per case: the atom taken, the case opened
+-- unfold[i]: atom i is a predicate's. One child per case: the atom taken, the case opened, its words and sequences written anew from
+-- their forms: a predicate that doubles its argument is unfolded forty times with no word of a million parts
 abbrev pub with_args : Option Predicate → List Arg → Option (Predicate × List Arg)
 with_args None args = None
 with_args (Some p) args = Some (p, args)
@@ -78,7 +79,7 @@ declared d _ = None
 
 abbrev pub cases_opened : SymState → List (Name × Arg) → List Assertion → List SymState
 cases_opened s vs [] = []
-cases_opened s vs (A ∷ As) = opened alone vs A s ∷ cases_opened s vs As
+cases_opened s vs (A ∷ As) = opened_anew alone vs A s ∷ cases_opened s vs As
 
 abbrev pub unfold_rule : Decls → SymState → List DArg → ℕ → Step
 unfold_rule d s args n =

@@ -12,7 +12,7 @@ use Rattle.bed_deriv.specs.declared.state.SymState.{SymState}
 use Rattle.bed_deriv.specs.declared.state.Sequent.{Sequent}
 use Rattle.bed_lang.specs.SameFacts.{same_facts, is_none}
 use Rattle.bed_deriv.specs.Arguments.{numbered, number_at, fact_at, counts}
-use Rattle.bed_deriv.specs.Rebuilt.{form_word, pieces_seq}
+use Rattle.bed_forms.specs.Rebuilt.{form_word, pieces_seq}
 use Rattle.bed_deriv.specs.Checks.{Goals, Needs, Given, Leaves, with_fact, sequent}
 
 -- the sides of an equation of sequences, and the word and the sequence of `e in s` and of `e notin s`

@@ -21,10 +21,12 @@ use Rattle.bed_lang.specs.declared.module.Signature.{Signature}
 use Rattle.bed_lang.specs.declared.module.Predicate.{Predicate}
 use Rattle.bed_lang.specs.declared.condition.Decls.{Decls}
 use Rattle.bed_lang.specs.declared.condition.Cond.{Cond}
-use Rattle.bed_lang.specs.Values.{Variable, Named, Old, Answer, Fresh, Hole, same_variable}
+use Rattle.bed_lang.specs.Values.{Variable, Named, Old, Answer, Fresh, Hole, variable, same_variable}
 use Rattle.bed_lang.specs.Keys.{bare_name}
-use Rattle.bed_lang.specs.Instances.{Instance, terms_with}
+use Rattle.bed_lang.specs.Instances.{Instance, word_with, seq_with, terms_with}
 use Rattle.bed_lang.specs.Lookups.{function_signature, count_of_params}
+use Rattle.bed_forms.specs.Rewritten.{fact_by, atom_by, term_by}
+use Rattle.bed_forms.specs.Rebuilt.{rebuilt_word, rebuilt_seq}
 use Rattle.bed_deriv.specs.declared.state.SymState.{SymState}
 
 -- ---- terms for variables
@@ -101,6 +103,37 @@ alone vs = record { words = word_or_0 vs; seqs = seq_or_nil vs }
 abbrev pub with_answer : Word → Instance → Instance
 with_answer w σ = record σ { words = λ y. if same_variable y Answer then w else σ.words y }
 
+-- one variable gives way to a word, or to a sequence; every other variable stays
+abbrev pub word_set : Var → Word → Instance
+word_set v by = record {
+  words = λ y. if same_variable y (variable v) then by else WordVar (occurrence y);
+  seqs = λ y. SeqVar (occurrence y);
+}
+
+abbrev pub seq_set : Var → Seq → Instance
+seq_set v by = record {
+  words = λ y. WordVar (occurrence y);
+  seqs = λ y. if same_variable y (variable v) then by else SeqVar (occurrence y);
+}
+
+-- trees under an instance, with each word and sequence then written anew from its form: however often it is done, they stay as small
+-- as their forms
+module _ (σ : Instance) where
+  abbrev pub replaced_word : Word → Word
+  replaced_word a = rebuilt_word (word_with σ a)
+
+  abbrev pub replaced_seq : Seq → Seq
+  replaced_seq s = rebuilt_seq (seq_with σ s)
+
+  abbrev pub replaced_fact : Pure → Pure
+  replaced_fact = fact_by replaced_word replaced_seq
+
+  abbrev pub replaced_atom : Atom → Atom
+  replaced_atom = atom_by replaced_word replaced_seq
+
+  abbrev pub replaced_term : Term → Term
+  replaced_term = term_by replaced_word replaced_seq
+
 -- locals as values
 abbrev pub local_value : Name × Word → Name × Arg
 local_value p = (p.0, arg.Word 0 p.1)
@@ -137,6 +170,12 @@ with_terms s ts = record s { facts = s.facts ++ facts_of ts; atoms = s.atoms ++ 
 abbrev pub opened : (List (Name × Arg) → Instance) → List (Name × Arg) → Assertion → SymState → SymState
 opened σ vs A s =
     with_terms (record s { next = s.next + length A.binders }) (terms_with (σ (vs ++ fresh_values A.binders s.next)) A.terms)
+
+-- the same, with terms written anew from their forms
+abbrev pub opened_anew : (List (Name × Arg) → Instance) → List (Name × Arg) → Assertion → SymState → SymState
+opened_anew σ vs A s =
+    with_terms (record s { next = s.next + length A.binders })
+    (map (replaced_term (σ (vs ++ fresh_values A.binders s.next))) A.terms)
 
 -- ---- the state that a condition opens
 

@@ -1,10 +1,9 @@
 -- Rules for a fact: each with its state s, its goal, its arguments and its number n of children. The goal is None where the node
 -- stands for the rest of a condition, which no rule for a fact proves.
-use Rattle.std.specs.Prelude.{ℕ, Bool, true, false, ◌&&◌, ◌||◌, ◌==◌, not, nat_lt, if◌then◌else◌, List, [], ◌∷◌, length, Option, Some, None}
+use Rattle.std.specs.Prelude.{ℕ, Bool, true, false, ◌&&◌, ◌||◌, ◌==◌, not, nat_lt, if◌then◌else◌, List, [], ◌∷◌, length, map, Option, Some, None}
 use Rattle.bed_lang.specs.declared.word.Name.{Name}
 use Rattle.bed_lang.specs.declared.word.Var.{Var}
-use Rattle.bed_lang.specs.declared.word.Word.{Word, Number, Var as WordVar, Add}
-use Rattle.bed_lang.specs.declared.word.Seq.{Seq, Var as SeqVar}
+use Rattle.bed_lang.specs.declared.word.Word.{Word, Number, Add}
 use Rattle.bed_lang.specs.declared.form.Key.{Key}
 use Rattle.bed_lang.specs.declared.form.Key.TheVariants as key
 use Rattle.bed_lang.specs.declared.form.Form.{Form}
@@ -16,20 +15,19 @@ use Rattle.bed_lang.specs.declared.logic.Atom.{Atom}
 use Rattle.bed_lang.specs.declared.logic.Atom.TheVariants.{Cell, Byte, Block, Pred}
 use Rattle.bed_lang.specs.declared.condition.Decls.{Decls}
 use Rattle.bed_lang.specs.Numbers.{wrap}
-use Rattle.bed_lang.specs.Values.{variable, same_variable}
 use Rattle.bed_lang.specs.Same.{same_name, same_var}
 use Rattle.bed_lang.specs.Keys.{same_key}
 use Rattle.bed_lang.specs.Forms.{Part, word_form, seq_form, add_forms, times_form, same_form}
 use Rattle.bed_lang.specs.Coefficients.{coefficient_in}
-use Rattle.bed_lang.specs.Instances.{Instance, pure_with, atom_with}
+use Rattle.bed_lang.specs.Instances.{Instance}
 use Rattle.bed_lang.specs.Differences.{difference}
 use Rattle.bed_lang.specs.Lookups.{label_signature}
 use Rattle.bed_deriv.specs.declared.derivation.DArg.{DArg}
 use Rattle.bed_deriv.specs.declared.state.SymState.{SymState}
 use Rattle.bed_lang.specs.SameFacts.{same_facts, negation, by_norm}
 use Rattle.bed_deriv.specs.Arguments.{numbered, number_at, word_at, variable_at, fact_given, fact_at, atom_at, to_number, at_number, counts}
-use Rattle.bed_deriv.specs.Rebuilt.{form_word, pieces_seq, rebuilt_fact, rebuilt_atom}
-use Rattle.bed_deriv.specs.Opening.{occurrence}
+use Rattle.bed_forms.specs.Rebuilt.{form_word, pieces_seq}
+use Rattle.bed_deriv.specs.Opening.{word_set, seq_set, replaced_fact, replaced_atom}
 use Rattle.bed_deriv.specs.Checks.{Goals, Needs, Given, Fails, Leaves, with_fact, sequent}
 
 -- hyp[i]: the goal is the same as fact i
@@ -75,18 +73,6 @@ comb s goal args n =
 
 -- solve[i, v]: fact i is an equation with the coefficient 1 or 4294967295 at v, or `==` with one side just v and v not in the other.
 -- Child: the goal, with v replaced in goal, facts and atoms; their words and sequences are written anew from their forms.
-abbrev pub word_set : Var → Word → Instance
-word_set v by = record {
-  words = λ y. if same_variable y (variable v) then by else WordVar (occurrence y);
-  seqs = λ y. SeqVar (occurrence y);
-}
-
-abbrev pub seq_set : Var → Seq → Instance
-seq_set v by = record {
-  words = λ y. WordVar (occurrence y);
-  seqs = λ y. if same_variable y (variable v) then by else SeqVar (occurrence y);
-}
-
 abbrev pub parts_but : Var → List Part → List Part
 parts_but v [] = []
 parts_but v (p ∷ ps) = if same_key p.0 (key.Var v) then parts_but v ps else p ∷ parts_but v ps
@@ -119,21 +105,13 @@ solution v (Equal a b) = solved_by v (difference a b) (coefficient_in (key.Var v
 solution v (Same s t) = solved_sequence v (seq_form s) (seq_form t)
 solution v _ = None
 
-abbrev pub replaced_facts : Instance → List Pure → List Pure
-replaced_facts σ [] = []
-replaced_facts σ (p ∷ ps) = rebuilt_fact (pure_with σ p) ∷ replaced_facts σ ps
-
-abbrev pub replaced_atoms : Instance → List Atom → List Atom
-replaced_atoms σ [] = []
-replaced_atoms σ (x ∷ xs) = rebuilt_atom (atom_with σ x) ∷ replaced_atoms σ xs
-
 abbrev pub replaced_state : Instance → SymState → SymState
-replaced_state σ s = record s { facts = replaced_facts σ s.facts; atoms = replaced_atoms σ s.atoms }
+replaced_state σ s = record s { facts = map (replaced_fact σ) s.facts; atoms = map (replaced_atom σ) s.atoms }
 
 abbrev pub solve : SymState → Option Pure → List DArg → ℕ → Goals
 solve s goal args n =
     Needs 1 (counts args 2 n 1) (Given 2 (fact_at s args 0) (λ p. Given 2 (variable_at s args 1) (λ v.
-    Given 3 goal (λ g. Given 3 (solution v p) (λ σ. Leaves (sequent (replaced_state σ s) (rebuilt_fact (pure_with σ g)) ∷ []))))))
+    Given 3 goal (λ g. Given 3 (solution v p) (λ σ. Leaves (sequent (replaced_state σ s) (replaced_fact σ g) ∷ []))))))
 
 -- order[0]: the goal is `a = b`, children `a <= b` and `b <= a`. order[1]: the goal is `a != b`, child `a < b`; order[2]: child `b < a`
 abbrev pub order_number : Option ℕ → Option ℕ

@@ -32,24 +32,15 @@ use Rattle.bed_lang.specs.Instances.{Instance, terms_with}
 use Rattle.bed_lang.specs.Lookups.{signature_named, label_signature, named_signature, function_signature}
 use Rattle.bed_deriv.specs.declared.derivation.DArg.{DArg}
 use Rattle.bed_deriv.specs.declared.state.SymState.{SymState}
+use Rattle.bed_deriv.specs.declared.rest.Rest.{Rest}
+use Rattle.bed_deriv.specs.declared.rest.Onward.{Onward}
 use Rattle.bed_lang.specs.SameFacts.{is_constant, is_none}
 use Rattle.bed_deriv.specs.Arguments.{numbered, number_at, atom_at, to_values, counts}
-use Rattle.bed_deriv.specs.Rebuilt.{form_word, rebuilt_word}
+use Rattle.bed_forms.specs.Rebuilt.{form_word, rebuilt_word}
 use Rattle.bed_deriv.specs.Opening.{replacing, with_answer, local_values, opened}
 use Rattle.bed_deriv.specs.Matches.{count_of_goals, count_of_atoms, chosen, all_different, atoms_left, match_goals}
 use Rattle.bed_deriv.specs.HeapRules.{cell_of, byte_of, fresh_word, with_next}
 use Rattle.bed_deriv.specs.Checks.{Check, Needs, Given, Fails, Leaves, first_failure, with_room, with_fact}
-
--- the rest of a condition: a state, the actions that are left, and the goal behind them
-pub record Rest : Type 0 where
-  pub state : SymState
-  pub actions : List Action
-  pub goal : Goal
-
--- facts that the first children prove in the node's own state, and what the other children go on with
-pub record Onward : Type 0 where
-  pub goals : List Pure
-  pub rests : List Rest
 
 abbrev pub rest_states : List Rest → List SymState
 rest_states [] = []

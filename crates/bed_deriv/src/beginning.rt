@@ -6,7 +6,8 @@ ghost use Rattle.bed_lang.specs.Lookups.{signature_named, label_signature, funct
 ghost use Rattle.bed_deriv.specs.Fresh.{IsKnownState, AreUnfresh, unfresh_condition, condition_size};
 ghost use Rattle.bed_deriv.specs.Opening.{arguments_of, first_locals, fresh_values, fresh_value, local_values, local_value, replacing, with_terms, opened_alone, started};
 
-use crate::opening::{replace_atom, replace_fact};
+use crate::read::{read_atom, read_fact};
+use crate::reading::Reading;
 use crate::state::SymState;
 use bed_lang::{
     Arg, Assertion, Bind, Cond, Decls, List, Name, Seq, Signature, Sort, Term, Var, Word,
@@ -130,11 +131,12 @@ fn push_terms(
 ) -> Result<(), AllocError>
     ensures { OnOk result (state.new ≡ with_terms state.old (terms_with (replacing values.now) terms.now)) }
 {
+    let reading = Reading::Names(values);
     for term in terms {
         match term {
             Term::Emp => {}
-            Term::Pure(p) => state.facts.push(replace_fact(alloc, values, p)?)?,
-            Term::Atom(a) => state.atoms.push(replace_atom(alloc, values, a)?)?,
+            Term::Pure(p) => state.facts.push(read_fact(alloc, &reading, p)?)?,
+            Term::Atom(a) => state.atoms.push(read_atom(alloc, &reading, a)?)?,
         }
     }
     Ok(())

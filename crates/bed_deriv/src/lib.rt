@@ -7,13 +7,19 @@
 
 pub mod arguments;
 mod beginning;
+pub mod choice;
 mod derivation;
 mod facts;
 pub mod known;
-pub mod opening;
+pub mod matching;
+pub mod read;
+mod reading;
+mod rest;
 mod state;
 
 pub use beginning::start;
 pub use derivation::{DArg, Deriv, Edge, Rule};
 pub use facts::negation;
+pub use reading::{Reading, read_seq, read_word};
+pub use rest::{Onward, Rest, Task};
 pub use state::{Remainder, Sequent, SymState};

@@ -1,1 +1,3 @@
 pub mod Laws
+pub mod Rewritten
+pub mod Rebuilt

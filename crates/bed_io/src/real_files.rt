@@ -1,5 +1,5 @@
 // The system's files. Only their counts of faults are proved.
-ghost use Rattle.std.specs.Prelude.{◌≡◌, ◌≤◌, ◌++◌, Err};
+ghost use Rattle.std.specs.Prelude.{◌≡◌, ◌≤◌, ◌++◌, ◌↔◌, Err, IsErr};
 ghost use Rattle.std.specs.Str.{IsUtf8};
 ghost use Rattle.bed_io.specs.Files.{FilesState, Reads, Puts, bytes_of, untold_files, faults_after};
 
@@ -45,15 +45,26 @@ impl<'a, R: FileSystem> RealFiles<'a, R> {
             self.write_faults.raise();
             return Err(FileRefusal::Failed);
         };
-        match write_with(self.rt, options, path, bytes) {
-            Ok(()) => Ok(()),
-            Err(error) => {
-                if error.kind() == ErrorKind::OutOfMemory {
-                    return Err(FileRefusal::Memory);
-                }
-                self.write_faults.raise();
-                Err(FileRefusal::Failed)
+        judged(
+            &mut self.write_faults,
+            write_with(self.rt, options, path, bytes),
+        )
+    }
+}
+
+// The answer to an outcome of std. Each of its errors but want of memory counts as a fault.
+fn judged(faults: &mut Counter, outcome: io::Result<()>) -> Result<(), FileRefusal>
+    ensures answer { IsErr result ↔ IsErr outcome }
+    ensures count { faults.new.count ≡ faults_after faults.old.count result }
+{
+    match outcome {
+        Ok(()) => Ok(()),
+        Err(error) => {
+            if error.kind() == ErrorKind::OutOfMemory {
+                return Err(FileRefusal::Memory);
             }
+            faults.raise();
+            Err(FileRefusal::Failed)
         }
     }
 }
@@ -99,18 +110,15 @@ impl<'a, R: FileSystem> Files for RealFiles<'a, R> {
             self.read_faults.raise();
             return Err(FileRefusal::Failed);
         };
-        match read_first(self.rt, path, most + 1, into) {
+        let outcome = read_first(self.rt, path, most + 1, into);
+        match judged(&mut self.read_faults, outcome) {
             Ok(()) => {
                 into.truncate(most + 1);
                 Ok(())
             }
-            Err(error) => {
+            Err(refusal) => {
                 into.clear();
-                if error.kind() == ErrorKind::OutOfMemory {
-                    return Err(FileRefusal::Memory);
-                }
-                self.read_faults.raise();
-                Err(FileRefusal::Failed)
+                Err(refusal)
             }
         }
     }

@@ -1,5 +1,5 @@
 // The standard output as a sink. Only its count of faults is proved.
-ghost use Rattle.std.specs.Prelude.{◌≡◌};
+ghost use Rattle.std.specs.Prelude.{◌≡◌, ◌↔◌, IsErr};
 ghost use Rattle.bed_io.specs.Sink.{SinkState, Takes, untold_sink, faults_after_put};
 
 use crate::counter::Counter;
@@ -28,6 +28,20 @@ impl<'a, R: Print> RealSink<'a, R> {
             faults: Counter::new(),
         }
     }
+
+    // The answer to an outcome of std, each of whose errors counts as a fault.
+    fn judged(&mut self, outcome: io::Result<()>) -> Result<(), Failed>
+        ensures answer { IsErr result ↔ IsErr outcome }
+        ensures count { self.new.faults.count ≡ faults_after_put self.old.faults.count outcome }
+    {
+        match outcome {
+            Ok(()) => Ok(()),
+            Err(_) => {
+                self.faults.raise();
+                Err(Failed)
+            }
+        }
+    }
 }
 
 impl<'a, R: Print> Sink for RealSink<'a, R> {
@@ -39,12 +53,7 @@ impl<'a, R: Print> Sink for RealSink<'a, R> {
         ensures takes { Takes (⟦<RealSink<'a, R> as Sink>⟧.seen self.old) (⟦<RealSink<'a, R> as Sink>⟧.seen self.new) bytes.now result }
         ensures count { (⟦<RealSink<'a, R> as Sink>⟧.seen self.new).faults ≡ faults_after_put (⟦<RealSink<'a, R> as Sink>⟧.seen self.old).faults result }
     {
-        match io::writer(self.rt).write_all(bytes) {
-            Ok(()) => Ok(()),
-            Err(_) => {
-                self.faults.raise();
-                Err(Failed)
-            }
-        }
+        let outcome = io::writer(self.rt).write_all(bytes);
+        self.judged(outcome)
     }
 }

@@ -1,5 +1,5 @@
 -- The value of each kind of term, and of a term after a substitution.
-use Rattle.std.proofs.Common.{◌≡◌, ℕ, ◌+◌, ◌-◌, ◌*◌, ◌%◌, refl, ap, sym, subst, ◌∙◌, Bool, true, false, if◌then◌else◌, cond, List, [], ◌∷◌, ◌++◌, map, ◌<◌, arith, Result, Ok, Err, IfOk}
+use Rattle.std.proofs.Common.{◌≡◌, ℕ, ◌+◌, ◌-◌, ◌*◌, refl, ap, sym, subst, ◌∙◌, Bool, true, false, if◌then◌else◌, List, [], ◌∷◌, ◌++◌, map, ◌<◌, arith, Result, Ok, Err, IfOk}
 use Rattle.std.specs.declared.alloc.AllocError.{AllocError}
 use Rattle.bed_lang.specs.declared.word.Name.{Name}
 use Rattle.bed_lang.specs.declared.word.Var.{Var}
@@ -7,7 +7,7 @@ use Rattle.bed_lang.specs.declared.word.Var.TheVariants as var
 use Rattle.bed_lang.specs.declared.word.Word.{Word, roll-Word, map-Word, Number, Var as Variable, Label, Add, Sub, Times, ind-Word, fold-roll-Word}
 use Rattle.bed_lang.specs.declared.word.Word.TheOpen.{Word-F}
 use Rattle.bed_lang.specs.declared.word.Word.TheVariants.{rolls-Number, rolls-Var, rolls-Label, rolls-Add, rolls-Sub, rolls-Times}
-use Rattle.bed_lang.specs.declared.word.Seq.{Seq, Var as SeqVariable, Nil, Cons, App, ind-Seq}
+use Rattle.bed_lang.specs.declared.word.Seq.{Seq, Var as SeqVariable, Nil, Cons, App}
 use Rattle.bed_lang.specs.declared.word.Seq.TheOpen.{Seq-F}
 use Rattle.bed_lang.specs.declared.word.Seq.TheVariants.{rolls-Var as seq_rolls-Var, rolls-Nil, rolls-Cons, rolls-App}
 use Rattle.bed_lang.specs.Same.{same_var}

@@ -1,10 +1,10 @@
 -- What forms stand for, and what the constant and the coefficients of a word are, whatever form it has.
-use Rattle.std.specs.Prelude.{◌≡◌, ◌≢◌, ℕ, ◌+◌, ◌-◌, ◌*◌, ◌<◌, Bool, if◌then◌else◌, List, [], ◌∷◌, ◌++◌, map}
+use Rattle.std.specs.Prelude.{◌≡◌, ◌≢◌, ℕ, ◌+◌, ◌-◌, ◌*◌, ◌<◌, if◌then◌else◌, List, [], ◌∷◌, ◌++◌, map}
 use Rattle.std.specs.Str.{bytes_eq}
 use Rattle.std.specs.declared.cmp.Ordering.TheVariants.{Less}
 use Rattle.bed_lang.specs.declared.word.Word.{Word}
 use Rattle.bed_lang.specs.Numbers.{wrap}
-use Rattle.bed_lang.specs.Values.{Variable, Values, variable, value}
+use Rattle.bed_lang.specs.Values.{Values, variable, value}
 use Rattle.bed_lang.specs.declared.form.Key.{Key}
 use Rattle.bed_lang.specs.declared.form.Key.TheVariants as key
 use Rattle.bed_lang.specs.declared.form.Form.{Form}

@@ -11,3 +11,4 @@ pub mod Differences
 pub mod SameFacts
 pub mod Lookups
 pub mod Declarations
+pub mod Skeletons

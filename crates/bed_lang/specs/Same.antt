@@ -1,5 +1,5 @@
 -- Whether two trees are the same, wherever they and their parts stand: every place is set aside.
-use Rattle.std.specs.Prelude.{ℕ, ◌==◌, ◌&&◌, Bool, true, false, List, [], ◌∷◌, map, Option, Some, None}
+use Rattle.std.specs.Prelude.{◌==◌, ◌&&◌, Bool, true, false, List, [], ◌∷◌, map, Option, Some, None}
 use Rattle.std.specs.Str.{bytes_eq}
 use Rattle.std.specs.Cmp.Lexicographic.{pointwise}
 use Rattle.bed_lang.specs.declared.word.Name.{Name}
@@ -37,7 +37,7 @@ use Rattle.bed_lang.specs.declared.module.Test.{Test}
 use Rattle.bed_lang.specs.declared.module.Hint.{Hint}
 use Rattle.bed_lang.specs.declared.module.Hint.TheVariants as hint
 use Rattle.bed_lang.specs.declared.module.Join.{Join}
-use Rattle.bed_lang.specs.declared.statement.Stmt.{Stmt, Stmt-F, out-Stmt, fold-Stmt}
+use Rattle.bed_lang.specs.declared.statement.Stmt.{Stmt, Stmt-F, fold-Stmt}
 use Rattle.bed_lang.specs.declared.statement.StmtKind.{StmtKind, StmtKind-F, out-StmtKind, fold-StmtKind}
 use Rattle.bed_lang.specs.declared.module.Action.{Action}
 use Rattle.bed_lang.specs.declared.module.Action.TheVariants as action

@@ -1,4 +1,4 @@
-pub mod MarkLaws
-pub mod NumberLaws
+mod MarkLemmas
+mod NumberLemmas
 pub mod NumberTokens
 pub mod ScanLaws

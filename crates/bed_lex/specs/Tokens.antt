@@ -142,6 +142,10 @@ Advances _ most = Unit {0}
 abbrev pub OneScan : List ℕ → Type 0
 OneScan text = (ts us : List Token) (e f : Option LexError) → Lexed 0 text ts e → Lexed 0 text us f → (ts ≡ us) × (e ≡ f)
 
+-- a text has such a list of tokens, and such a place or none
+abbrev pub HasScan : List ℕ → Type 0
+HasScan text = (ts : List Token) × (e : Option LexError) × Lexed 0 text ts e
+
 -- no longer mark stands at the front than the one that is found there
 abbrev pub IsLongestMark : List ℕ → List ℕ → Type 0
 IsLongestMark text m =

@@ -1,6 +1,6 @@
 //! The tokens of a text, one after another.
 ghost use Rattle.std.specs.Prelude.{◌≡◌, ◌<◌, ◌^◌, ◌++◌, ◌∷◌, [], length, IfOk, Ok, Err, Some, None};
-ghost use Rattle.bed_lex.specs.Tokens.{Lexed, IsScan, OneScan, IsLongestMark, NumbersFit, Tokenizes};
+ghost use Rattle.bed_lex.specs.Tokens.{Lexed, IsScan, OneScan, HasScan, IsLongestMark, NumbersFit, Tokenizes};
 
 use crate::front::{Front, find_front};
 use crate::token::{Kind, LexError, Token};
@@ -106,6 +106,11 @@ pub fn tokens(alloc: Global, text: &[u8]) -> Result<List<Token>, LexError>
 /// A text has one list of tokens and one first refusal, so `scan` and `tokens` give the only ones.
 pub fn has_one_scan(_text: &[u8])
     ensures { OneScan _text.now }
+{}
+
+/// A text has such a list of tokens.
+pub fn has_a_scan(_text: &[u8])
+    ensures { HasScan _text.now }
 {}
 
 /// No longer mark stands at a place than the one that a token takes there.

@@ -6,5 +6,7 @@ mod lexing;
 mod token;
 
 pub use front::{Front, digits, fixed, letter, name_byte};
-pub use lexing::{Scanned, has_one_scan, has_word_numbers, scan, takes_longest_mark, tokens};
+pub use lexing::{
+    Scanned, has_a_scan, has_one_scan, has_word_numbers, scan, takes_longest_mark, tokens,
+};
 pub use token::{Kind, LexError, MARKS, Token, WORDS};

@@ -1,9 +1,11 @@
-pub mod BareLaws
-pub mod NotedLemmas
-pub mod ResolvedLemmas
+pub mod ArgumentLaws
+mod BareLemmas
+mod NotedLemmas
+mod ResolvedLemmas
 pub mod RuleLaws
-pub mod ScopeLemmas
-pub mod ScopedLemmas
-pub mod StatementLemmas
-pub mod TableLemmas
-pub mod TermLemmas
+mod ScopeLemmas
+mod ScopedLemmas
+pub mod SkeletonLaws
+mod StatementLemmas
+mod TableLemmas
+mod TermLemmas

@@ -5,7 +5,7 @@ use Rattle.bed_lang.specs.declared.word.Name.{Name}
 use Rattle.bed_lang.specs.declared.logic.Bind.{Bind}
 use Rattle.bed_names.specs.declared.error.NameError.{NameError}
 use Rattle.bed_names.specs.declared.error.NameError.TheVariants.{Twice}
-use Rattle.bed_names.specs.Declarations.{is_among, sort_of}
+use Rattle.bed_names.specs.Names.{is_among, sort_of}
 use Rattle.bed_names.specs.Terms.{twice_after, bind_names}
 use Rattle.bed_names.specs.Faults.{noted, earlier, all_faults, fault_if}
 

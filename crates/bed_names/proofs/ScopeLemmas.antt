@@ -6,7 +6,7 @@ use Rattle.bed_lang.specs.declared.word.Name.{Name}
 use Rattle.bed_lang.specs.declared.word.Sort.{Sort}
 use Rattle.bed_lang.specs.declared.word.Sort.TheVariants as sort
 use Rattle.bed_lang.specs.declared.logic.Bind.{Bind}
-use Rattle.bed_names.specs.Declarations.{is_among, sort_of, words, sequences}
+use Rattle.bed_names.specs.Names.{is_among, sort_of, words, sequences}
 
 option_or-if : (t : Bool) (s : Sort) (a b : Option Sort)
     → (if t then Some s else option_or a b) ≡ option_or (if t then Some s else a) b

@@ -7,7 +7,7 @@ use Rattle.bed_lang.specs.declared.module.Signature.{Signature}
 use Rattle.bed_lang.specs.declared.condition.Decls.{Decls}
 use Rattle.bed_names.specs.declared.error.NameError.{NameError}
 use Rattle.bed_lang.specs.Declarations.{declarations}
-use Rattle.bed_names.specs.Declarations.{found, named_signatures}
+use Rattle.bed_lang.specs.Lookups.{first_signature}
 use Rattle.bed_names.specs.Faults.{noted, refusal}
 use Rattle.bed_names.specs.Modules.{name_spaces_faults, items_faults, faults}
 use Rattle.bed_names.specs.Statements.{frame}
@@ -33,5 +33,5 @@ first_fits false t s more small later e = later e
 pub frames_fit : (ss : List Signature) → All (λ s. (length s.params ≤ 60) × (s.reserve ≤ 4096)) ss → FramesFit ss
 frames_fit [] all x s e = absurd (cc)
 frames_fit (t ∷ ss) all x s e =
-    first_fits (bytes_eq x t.name.bytes) t s (found (named_signatures ss) x) (All-head Small t ss all)
+    first_fits (bytes_eq t.name.bytes x) t s (first_signature ss x) (All-head Small t ss all)
     (frames_fit ss (All-tail Small t ss all) x s) e

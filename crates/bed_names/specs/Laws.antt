@@ -7,6 +7,7 @@ use Rattle.bed_lang.specs.declared.module.Operand.TheVariants as operand
 use Rattle.bed_lang.specs.declared.module.Signature.{Signature}
 use Rattle.bed_lang.specs.declared.statement.Stmt.{Stmt}
 use Rattle.bed_lang.specs.declared.statement.StmtKind.{Return}
+use Rattle.bed_lang.specs.Skeletons.{skeleton}
 use Rattle.bed_names.specs.declared.error.NameError.{NameError}
 use Rattle.bed_names.specs.declared.error.NameError.TheVariants.{Dead, StackRoom}
 use Rattle.bed_names.specs.Bare.{module_is_resolved}
@@ -35,6 +36,10 @@ NoFaultGoesBefore =
 -- where the names of a module are resolved, no bare argument is left
 abbrev pub NoBareArgumentIsLeft : Type 0
 NoBareArgumentIsLeft = (m : Module) → module_is_resolved (resolved m) ≡ true
+
+-- resolving names changes nothing that code reads
+abbrev pub ResolvingKeepsSkeletons : Type 0
+ResolvingKeepsSkeletons = (m : Module) → skeleton (resolved m) ≡ skeleton m
 
 -- return n;
 abbrev pub return_at : ℕ → ℕ → Stmt

@@ -1,10 +1,11 @@
+pub mod Arguments
 pub mod Bare
-pub mod Declarations
 pub mod Faults
 pub mod InScope
 pub mod Laws
 pub mod Limits
 pub mod Modules
+pub mod Names
 pub mod Resolved
 pub mod Statements
 pub mod Tables

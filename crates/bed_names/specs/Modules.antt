@@ -22,7 +22,8 @@ use Rattle.bed_names.specs.declared.error.NameError.{NameError}
 use Rattle.bed_names.specs.declared.error.NameError.TheVariants.{FallsOff, StackRoom}
 use Rattle.bed_names.specs.Faults.{fault_if, all_faults}
 use Rattle.bed_lang.specs.Declarations.{declarations}
-use Rattle.bed_names.specs.Declarations.{signature_named, words}
+use Rattle.bed_lang.specs.Lookups.{signature_named}
+use Rattle.bed_names.specs.Names.{words}
 use Rattle.bed_names.specs.Terms.{Visible, twice_faults, bind_names, assertion_faults, signature_name_faults}
 use Rattle.bed_names.specs.Statements.{Surroundings, body_falls, body_faults}
 
@@ -93,7 +94,7 @@ faults_under d s f =
 
 abbrev pub function_faults : Decls → Function → List NameError
 function_faults d f =
-    signature_name_faults (plain d [] false) f.signature ++ faults_under d (signature_named d f.signature) f
+    signature_name_faults (plain d [] false) f.signature ++ faults_under d (signature_named d f.signature.bytes) f
 
 abbrev pub import_faults : Decls → Import → List NameError
 import_faults d i = signature_name_faults (plain d [] false) i.signature

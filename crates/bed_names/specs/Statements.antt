@@ -41,7 +41,8 @@ use Rattle.bed_lang.specs.declared.condition.Decls.{Decls}
 use Rattle.bed_names.specs.declared.error.NameError.{NameError}
 use Rattle.bed_names.specs.declared.error.NameError.TheVariants.{Twice, Unknown, Arity, Dead, MissingJoin, StackRoom}
 use Rattle.bed_names.specs.Faults.{fault_if, all_faults}
-use Rattle.bed_names.specs.Declarations.{signature_named, label_named, is_among, sequences}
+use Rattle.bed_lang.specs.Lookups.{signature_named, function_signature}
+use Rattle.bed_names.specs.Names.{is_among, sequences}
 use Rattle.bed_names.specs.Terms.{Visible, with_names, label_faults, signature_name_faults, seq_faults, twice_faults, assertion_faults, hint_faults, hints_faults}
 
 -- what the statements of a function see: what its assertions and hints may name; its locals, the arguments first; and how many
@@ -56,13 +57,9 @@ abbrev pub frame : Signature → ℕ
 frame s = 1 + length s.params + s.reserve
 
 -- the signature of a callee: of `via N` the one named N, of `&f` that of f
-abbrev pub signature_of_label : Decls → Option Name → Option Signature
-signature_of_label d None = None
-signature_of_label d (Some x) = signature_named d x
-
 abbrev pub callee : Decls → Operand → Option Name → Option Signature
-callee d target (Some x) = signature_named d x
-callee d (operand.Label f) None = signature_of_label d (label_named d f)
+callee d target (Some x) = signature_named d x.bytes
+callee d (operand.Label f) None = function_signature d f
 callee d target None = None
 
 abbrev pub room_faults : Option ℕ → ℕ → ℕ → List NameError

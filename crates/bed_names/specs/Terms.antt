@@ -33,7 +33,8 @@ use Rattle.bed_lang.specs.Same.{same_sort}
 use Rattle.bed_names.specs.declared.error.NameError.{NameError}
 use Rattle.bed_names.specs.declared.error.NameError.TheVariants.{Twice, Unknown, Sort as OfOtherSort, Arity}
 use Rattle.bed_names.specs.Faults.{fault_if, all_faults}
-use Rattle.bed_names.specs.Declarations.{signature_named, predicate_named, label_named, is_among, sort_of}
+use Rattle.bed_lang.specs.Lookups.{signature_named, predicate_named, label_signature}
+use Rattle.bed_names.specs.Names.{is_among, sort_of}
 
 -- what a term may name: the declarations, whose labels are those in scope; the variables with their sorts; the arguments of
 -- which `old a` may be said; and whether `result` is in scope
@@ -99,10 +100,10 @@ module _ (v : Visible) where
   variable_faults asked var.Hole = []
 
   abbrev pub label_faults : Name → List NameError
-  label_faults f = fault_if (is_none (label_named v.decls f)) (Unknown f.at)
+  label_faults f = fault_if (is_none (label_signature v.decls f.bytes)) (Unknown f.at)
 
   abbrev pub signature_name_faults : Name → List NameError
-  signature_name_faults x = fault_if (is_none (signature_named v.decls x)) (Unknown x.at)
+  signature_name_faults x = fault_if (is_none (signature_named v.decls x.bytes)) (Unknown x.at)
 
   abbrev pub word_step : Word-F (List NameError) → List NameError
   word_step (Word-F.Number n) = []
@@ -138,13 +139,13 @@ module _ (v : Visible) where
   args_faults holes ps (a ∷ more) = arg_faults holes (first_sort ps) a ++ args_faults holes (behind_first ps) more
 
   abbrev pub predicate_name_faults : Name → List NameError
-  predicate_name_faults x = fault_if (is_none (predicate_named v.decls x)) (Unknown x.at)
+  predicate_name_faults x = fault_if (is_none (predicate_named v.decls x.bytes)) (Unknown x.at)
 
   abbrev pub applied_faults : Bool → Name → List Arg → List NameError
   applied_faults holes x as' =
       predicate_name_faults x
-      ++ (fault_if (has_other_number (predicate_named v.decls x) as') (Arity x.at)
-      ++ args_faults holes (asked_by (predicate_named v.decls x) as') as')
+      ++ (fault_if (has_other_number (predicate_named v.decls x.bytes) as') (Arity x.at)
+      ++ args_faults holes (asked_by (predicate_named v.decls x.bytes) as') as')
 
   abbrev pub pure_faults : Pure → List NameError
   pure_faults (pure.Equal a b) = word_faults a ++ word_faults b
@@ -200,7 +201,7 @@ has_no_case (Some p) n = (n == 0) || nat_lt (length p.cases) n
 abbrev pub hint_faults : Visible → Hint → List NameError
 hint_faults v (hint.Unfold x at) = predicate_name_faults v x ++ option_faults v at
 hint_faults v (hint.Fold x as' n) =
-    fault_if (has_no_case (predicate_named v.decls x) n) (Arity x.at) ++ applied_faults v true x as'
+    fault_if (has_no_case (predicate_named v.decls x.bytes) n) (Arity x.at) ++ applied_faults v true x as'
 hint_faults v (hint.Append a) = word_faults v a
 hint_faults v (hint.Divide a b) = word_faults v a ++ word_faults v b
 hint_faults v (hint.Merge a b) = word_faults v a ++ word_faults v b

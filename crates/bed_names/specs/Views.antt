@@ -3,7 +3,7 @@ use Rattle.std.specs.Prelude.{Bool, if◌then◌else◌, List, [], ◌++◌}
 use Rattle.bed_lang.specs.declared.word.Name.{Name}
 use Rattle.bed_lang.specs.declared.logic.Bind.{Bind}
 use Rattle.bed_lang.specs.declared.condition.Decls.{Decls}
-use Rattle.bed_names.specs.Declarations.{words, sequences}
+use Rattle.bed_names.specs.Names.{words, sequences}
 use Rattle.bed_names.specs.Terms.{Visible, with_names}
 
 -- the declarations, with their labels or without

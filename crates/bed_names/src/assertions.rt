@@ -5,7 +5,7 @@ ghost use Rattle.std.specs.Prelude.{◌≡◌, Some, None, [], ◌∷◌, codes,
 ghost use Rattle.std.specs.Option.{option_copied};
 ghost use Rattle.bed_names.specs.Faults.{noted};
 ghost use Rattle.bed_names.specs.Terms.{is_hole as is_the_hole, bare_faults, arg_faults, args_faults, asked_by, has_other_number, has_no_case, predicate_name_faults, applied_faults, pure_faults, atom_faults, term_faults, terms_faults, option_faults, hint_faults, hints_faults, with_names, assertion_faults};
-ghost use Rattle.bed_names.specs.Declarations.{sequences};
+ghost use Rattle.bed_names.specs.Names.{sequences};
 
 use crate::error::NameError;
 use crate::found::note_if;

@@ -5,7 +5,7 @@ ghost use Rattle.std.specs.Prelude.{◌≡◌, IfOk, map};
 ghost use Rattle.bed_lang.specs.Declarations.{declarations as declarations_of, labels_of};
 
 use crate::prelude::prelude;
-use bed_lang::{Decls, Function, Import, List, Module, Name, Tree};
+use bed_lang::{Decls, Function, Import, List, Module, Name, Predicate, Tree};
 use std::alloc::{AllocError, Global};
 
 fn import_labels(alloc: Global, imports: &[Import]) -> Result<List<(Name, Name)>, AllocError>
@@ -36,15 +36,25 @@ fn labels(alloc: Global, m: &Module) -> Result<List<(Name, Name)>, AllocError>
     Ok(labels)
 }
 
+// The predicates of a module, behind the prelude's.
+fn predicates(alloc: Global, m: &Module) -> Result<List<Predicate>, AllocError>
+    ensures { IfOk result (λ ps. ps ≡ (declarations_of m.now).predicates) }
+{
+    let mut predicates = prelude(alloc)?;
+    predicates.append(m.predicates.copied(alloc)?)?;
+    Ok(predicates)
+}
+
 /// The declarations of a module, with the prelude's predicates.
 pub(crate) fn declarations(alloc: Global, m: &Module) -> Result<Decls, AllocError>
     ensures { IfOk result (λ d. d ≡ declarations_of m.now) }
 {
-    let mut predicates = prelude(alloc)?;
-    predicates.append(m.predicates.copied(alloc)?)?;
+    let labels = labels(alloc, m)?;
+    let signatures = m.signatures.copied(alloc)?;
+    let predicates = predicates(alloc, m)?;
     Ok(Decls {
-        signatures: m.signatures.copied(alloc)?,
+        signatures,
         predicates,
-        labels: labels(alloc, m)?,
+        labels,
     })
 }

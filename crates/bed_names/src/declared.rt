@@ -1,7 +1,7 @@
 //! Declarations by their names.
 ghost use Rattle.std.specs.Prelude.{◌≡◌, ◌<◌, IfOk, IfSome};
 ghost use Rattle.std.specs.Option.{option_copied};
-ghost use Rattle.bed_names.specs.Declarations.{signature_named, predicate_named, label_named};
+ghost use Rattle.bed_lang.specs.Lookups.{signature_named, predicate_named, label_signature};
 ghost use Rattle.bed_names.specs.Faults.{noted};
 ghost use Rattle.bed_names.specs.Modules.{name_spaces_faults};
 ghost use Rattle.bed_names.specs.Statements.{frame};
@@ -69,7 +69,7 @@ impl<'a> Declared<'a> {
 
     /// The first signature of a name.
     pub(crate) fn signature(&self, x: &Name) -> Option<&'a Signature>
-        ensures is { option_copied result ≡ signature_named self.now x.now }
+        ensures is { option_copied result ≡ signature_named self.now x.now.bytes }
         ensures fits { IfSome result (λ s. frame s.now < 4294967296) }
     {
         let number = self.signatures.get(x.bytes.as_slice())?;
@@ -78,7 +78,7 @@ impl<'a> Declared<'a> {
 
     /// The first predicate of a name.
     pub(crate) fn predicate(&self, x: &Name) -> Option<&'a Predicate>
-        ensures { option_copied result ≡ predicate_named self.now x.now }
+        ensures { option_copied result ≡ predicate_named self.now x.now.bytes }
     {
         let number = self.predicates.get(x.bytes.as_slice())?;
         self.decls.predicates.get(number)
@@ -86,7 +86,7 @@ impl<'a> Declared<'a> {
 
     /// The name of the signature of the first function or import of a name.
     pub(crate) fn label(&self, x: &Name) -> Option<&'a Name>
-        ensures { option_copied result ≡ label_named self.now x.now }
+        ensures { option_copied result ≡ label_signature self.now x.now.bytes }
     {
         let number = self.labels.get(x.bytes.as_slice())?;
         let (_, signature) = self.decls.labels.get(number)?;

@@ -3,7 +3,7 @@
 
 ghost use Rattle.std.specs.Prelude.{◌≡◌, ◌<◌, ◌++◌, [], false, length};
 ghost use Rattle.std.specs.Option.{option_copied};
-ghost use Rattle.bed_names.specs.Declarations.{words};
+ghost use Rattle.bed_names.specs.Names.{words};
 ghost use Rattle.bed_names.specs.Faults.{noted};
 ghost use Rattle.bed_names.specs.Terms.{twice_faults, bind_names, assertion_faults, signature_name_faults};
 ghost use Rattle.bed_names.specs.Modules.{plain, signature_names, signature_faults, cases_faults, predicate_faults, import_faults, params_of, logical_of, area_of, locals_room_faults, function_visible, inside, faults_under, function_faults};

@@ -3,7 +3,7 @@
 
 ghost use Rattle.std.specs.Prelude.{◌≡◌, ◌++◌, ◌<◌, [], ◌∷◌, ◌||◌, IfSome};
 ghost use Rattle.std.specs.Option.{option_copied};
-ghost use Rattle.bed_names.specs.Declarations.{is_among as is_among_names};
+ghost use Rattle.bed_names.specs.Names.{is_among as is_among_names};
 ghost use Rattle.bed_names.specs.Faults.{noted};
 ghost use Rattle.bed_names.specs.Terms.{seq_faults};
 ghost use Rattle.bed_names.specs.Statements.{frame, callee as callee_of, room_faults, callee_faults, is_local as is_the_local, operand_place as place_of_operand, local_faults, operand_faults, operands_faults, test_faults, via_faults, call_head_faults, call_faults, keep_faults, other_local_faults, key_faults, list_keep_faults, find_faults, walk_faults, assign_faults, compute_faults, move_faults};

@@ -1,5 +1,5 @@
 //! What the definitions of the rules say, as laws and by examples.
-ghost use Rattle.bed_names.specs.Laws.{RefusalIsFault, FaultsAreRefused, NoFaultGoesBefore, NoBareArgumentIsLeft, SecondReturnIsDead, CallsNeedRoom};
+ghost use Rattle.bed_names.specs.Laws.{RefusalIsFault, FaultsAreRefused, NoFaultGoesBefore, NoBareArgumentIsLeft, ResolvingKeepsSkeletons, SecondReturnIsDead, CallsNeedRoom};
 
 /// What is refused is one of the faults, no fault goes before it, and where there is a fault
 /// something is refused.
@@ -15,7 +15,9 @@ pub fn examples()
     ensures room { CallsNeedRoom }
 {}
 
-/// Where the names of a module are resolved, no bare argument is left.
+/// Where the names of a module are resolved, no bare argument is left, and nothing is changed that
+/// code reads.
 pub fn resolving()
-    ensures { NoBareArgumentIsLeft }
+    ensures no_bare_argument { NoBareArgumentIsLeft }
+    ensures same_skeleton { ResolvingKeepsSkeletons }
 {}

@@ -85,6 +85,36 @@ fn checked(alloc: Global, decls: &Decls, m: &Module) -> Result<Module, NameError
     judged(alloc, &declaring, m)
 }
 
+// A module that keeps the limits, without bare arguments, or its refusal.
+fn accepted(alloc: Global, m: &Module) -> Result<Module, NameError>
+    requires { KeepsLimits m.now }
+    ensures accepted { OnOk result (refusal (faults m.now) ≡ None) }
+    ensures module { IfOk result (λ r. r ≡ resolved m.now) }
+    ensures refused { IfErr result (λ e. e ≢ NameError.Memory → refusal (faults m.now) ≡ Some e) }
+{
+    let decls = declarations(alloc, m)?;
+    checked(alloc, &decls, m)
+}
+
+// A module with its declarations.
+fn with_declarations(alloc: Global, m: Module) -> Result<Scoped, NameError>
+    ensures ok { IfOk result (λ s. (s.module ≡ m) × (s.decls ≡ declarations_of m)) }
+    ensures err { IfErr result (λ e. e ≡ NameError.Memory) }
+{
+    let decls = declarations(alloc, &m)?;
+    Ok(Scoped { module: m, decls })
+}
+
+// The module without bare arguments, with its declarations.
+fn resolved_module(alloc: Global, m: &Module) -> Result<Scoped, NameError>
+    requires { KeepsLimits m.now }
+    ensures ok { IfOk result (λ s. (refusal (faults m.now) ≡ None) × (s.module ≡ resolved m.now) × (s.decls ≡ declarations_of (resolved m.now))) }
+    ensures refused { IfErr result (λ e. e ≢ NameError.Memory → refusal (faults m.now) ≡ Some e) }
+{
+    let module = accepted(alloc, m)?;
+    with_declarations(alloc, module)
+}
+
 /// The module without bare arguments, with its declarations, where no rule of names is broken.
 ///
 /// # Errors
@@ -97,11 +127,9 @@ pub fn scope(alloc: Global, m: Module) -> Result<Scoped, NameError>
     ensures beyond { (KeepsLimits m → ⊥) → result ≡ Err NameError.Memory }
     ensures refused { IfErr result (λ e. e ≢ NameError.Memory → refusal (faults m) ≡ Some e) }
 {
-    if !keeps_limits(&m) {
-        return Err(NameError::Memory);
+    if keeps_limits(&m) {
+        resolved_module(alloc, &m)
+    } else {
+        Err(NameError::Memory)
     }
-    let decls = declarations(alloc, &m)?;
-    let module = checked(alloc, &decls, &m)?;
-    let decls = declarations(alloc, &module)?;
-    Ok(Scoped { module, decls })
 }

@@ -1,7 +1,7 @@
 //! A table of items by their names.
 ghost use Rattle.std.specs.Prelude.{◌≡◌, ◌<◌, [], ◌∷◌, ◌++◌, IfOk, OnOk, OnErr, is_none};
 ghost use Rattle.std.specs.Bool.{OnTrue, OnFalse};
-ghost use Rattle.bed_names.specs.Declarations.{found};
+ghost use Rattle.bed_names.specs.Tables.{number_of};
 
 use indexmap::IndexMap;
 use std::alloc::{AllocError, Global};
@@ -36,14 +36,14 @@ impl Table {
 
     /// The number under a name.
     pub(crate) fn get(&self, name: &[u8]) -> Option<usize>
-        ensures { result ≡ found self.now name.now }
+        ensures { result ≡ number_of self.now name.now }
     {
         self.map.get(name).copied()
     }
 
     /// Adds a name where it is new, and tells whether it was.
     pub(crate) fn add(&mut self, name: &[u8], value: usize) -> Result<bool, AllocError>
-        ensures is_new { IfOk result (λ new. new ≡ is_none (found self.old name.now)) }
+        ensures is_new { IfOk result (λ new. new ≡ is_none (number_of self.old name.now)) }
         ensures new { IfOk result (λ new. OnTrue new (self.new ≡ self.old ++ (name.now, value) ∷ [])) }
         ensures old { IfOk result (λ new. OnFalse new (self.new ≡ self.old)) }
         ensures err { OnErr result (self.new ≡ self.old) }

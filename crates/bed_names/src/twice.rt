@@ -2,7 +2,7 @@
 #![tactic(auto, using(crate::proofs::NotedLemmas::noted_append))]
 
 ghost use Rattle.std.specs.Prelude.{◌≡◌, [], ◌∷◌, ◌||◌, is_some};
-ghost use Rattle.bed_names.specs.Declarations.{is_among as is_among_names};
+ghost use Rattle.bed_names.specs.Names.{is_among as is_among_names};
 ghost use Rattle.bed_names.specs.Faults.{noted};
 ghost use Rattle.bed_names.specs.Terms.{twice_faults, bind_names};
 

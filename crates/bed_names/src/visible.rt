@@ -1,7 +1,8 @@
 //! What a term may name.
 ghost use Rattle.std.specs.Prelude.{◌≡◌, ◌++◌, IsTrue, true, false, [], ◌∷◌, map, ◌<◌, IfSome, bytes_eq};
 ghost use Rattle.std.specs.Option.{option_copied};
-ghost use Rattle.bed_names.specs.Declarations.{signature_named, predicate_named, label_named, is_among as is_among_names, sort_of as sort_of_name, sequences, words};
+ghost use Rattle.bed_lang.specs.Lookups.{signature_named, predicate_named, label_signature};
+ghost use Rattle.bed_names.specs.Names.{is_among as is_among_names, sort_of as sort_of_name, sequences, words};
 ghost use Rattle.bed_names.specs.Modules.{plain, signature_names, visible_inside};
 ghost use Rattle.bed_names.specs.Statements.{frame};
 ghost use Rattle.bed_names.specs.Terms.{with_names};
@@ -174,7 +175,7 @@ impl<'a> Outer<'a> {
 
     /// The name of the signature of the first function or import of a name.
     pub(crate) fn label(&self, x: &Name) -> Option<&'a Name>
-        ensures { option_copied result ≡ label_named self.now.decls x.now }
+        ensures { option_copied result ≡ label_signature self.now.decls x.now.bytes }
     {
         if self.labels {
             self.declared.label(x)
@@ -185,14 +186,14 @@ impl<'a> Outer<'a> {
 
     /// The first signature of a name.
     pub(crate) fn signature(&self, x: &Name) -> Option<&'a Signature>
-        ensures is { option_copied result ≡ signature_named self.now.decls x.now }
+        ensures is { option_copied result ≡ signature_named self.now.decls x.now.bytes }
         ensures fits { IfSome result (λ s. frame s.now < 4294967296) }
     {
         self.declared.signature(x)
     }
 
     fn predicate(&self, x: &Name) -> Option<&'a Predicate>
-        ensures { option_copied result ≡ predicate_named self.now.decls x.now }
+        ensures { option_copied result ≡ predicate_named self.now.decls x.now.bytes }
     {
         self.declared.predicate(x)
     }
@@ -237,21 +238,21 @@ impl<'a> Model for Scope<'a> {
 impl<'a> Scope<'a> {
     /// The first signature of a name.
     pub(crate) fn signature(&self, x: &Name) -> Option<&'a Signature>
-        ensures { option_copied result ≡ signature_named self.now.decls x.now }
+        ensures { option_copied result ≡ signature_named self.now.decls x.now.bytes }
     {
         self.outer.signature(x)
     }
 
     /// The first predicate of a name.
     pub(crate) fn predicate(&self, x: &Name) -> Option<&'a Predicate>
-        ensures { option_copied result ≡ predicate_named self.now.decls x.now }
+        ensures { option_copied result ≡ predicate_named self.now.decls x.now.bytes }
     {
         self.outer.predicate(x)
     }
 
     /// The name of the signature of the first function or import of a name.
     pub(crate) fn label(&self, x: &Name) -> Option<&'a Name>
-        ensures { option_copied result ≡ label_named self.now.decls x.now }
+        ensures { option_copied result ≡ label_signature self.now.decls x.now.bytes }
     {
         self.outer.label(x)
     }

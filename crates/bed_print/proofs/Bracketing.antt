@@ -19,7 +19,8 @@ use Rattle.bed_lang.specs.declared.limit.Which.{Which}
 use Rattle.bed_lang.specs.declared.limit.Which.TheVariants as limit
 use Rattle.bed_lex.specs.declared.token.Token.{Token}
 use Rattle.bed_lex.specs.declared.token.Kind.TheVariants as kind
-use Rattle.bed_names.specs.Declarations.{sequences, signature_named, predicate_named}
+use Rattle.bed_lang.specs.Lookups.{signature_named, predicate_named}
+use Rattle.bed_names.specs.Names.{sequences}
 use Rattle.bed_names.specs.Terms.{Visible, with_names, is_hole, asked_by, first_sort, behind_first}
 use Rattle.bed_names.specs.Modules.{plain, signature_names, function_visible}
 use Rattle.bed_names.specs.Resolved.{bare_sort}
@@ -387,7 +388,7 @@ step grammar.Functions not (inl v) w (d, e) = (inl (worded_function d v.0, map (
 step grammar.Functions not (inr v) w (d, e) = (inr v, tt, e)
 step grammar.Function not v w (d, e) =
     let f : Function = written_action grammar.Function v in
-    let s : Visible = function_visible d (signature_named d f.signature) f in (
+    let s : Visible = function_visible d (signature_named d f.signature.bytes) f in (
       (v.0, (v.1.0, (v.1.1.0, (v.1.1.1.0, (v.1.1.1.1.0, (v.1.1.1.1.1.0, (map (worded_stmt s) v.1.1.1.1.1.1.0, v.1.1.1.1.1.1.1))))))),
       (refl, (refl, (refl, (refl, (refl, (refl, (s, refl))))))),
       e,
@@ -410,7 +411,7 @@ step (grammar.Term m) not (inl v) w (s, e) = (inl v, refl, e)
 step (grammar.Term m) not (inr (inl v)) w (s, e) = (inr (inl (v.0, worded_term s v.1)), (s, refl), e)
 step (grammar.Term m) not (inr (inr (inl v))) w (s, e) = (inr (inr (inl (v.0, worded_term s v.1))), (s, refl), e)
 step (grammar.Term m) not (inr (inr (inr (inl v)))) w (s, e) =
-    let ps : List Bind = asked_by (predicate_named s.decls v.0) v.1.1.0 in (
+    let ps : List Bind = asked_by (predicate_named s.decls v.0.bytes) v.1.1.0 in (
       inr (inr (inr (inl (v.0, (v.1.0, (worded_args s ps v.1.1.0, v.1.1.1)))))),
       (refl, (refl, ((omega arith, (s, (ps, refl))), refl))),
       e,
@@ -545,7 +546,7 @@ step grammar.Hint not (inr (inr (inl v))) w (s, e) = (inr (inr (inl (worded_hint
 step grammar.Hint not (inr (inr (inr v))) w (s, e) = (inr (inr (inr (worded_hint s v))), (s, refl), e)
 step grammar.PredicateHint not (inl v) w (s, e) = (inl v, (refl, (refl, refl)), e)
 step grammar.PredicateHint not (inr v) w (s, e) =
-    let ps : List Bind = asked_by (predicate_named s.decls v.1.0) v.1.1.1.0 in (
+    let ps : List Bind = asked_by (predicate_named s.decls v.1.0.bytes) v.1.1.1.0 in (
       inr (v.0, (v.1.0, (v.1.1.0, (worded_args s ps v.1.1.1.0, v.1.1.1.1)))),
       (refl, (refl, (refl, ((omega arith, (s, (ps, refl))), (refl, (refl, refl)))))),
       e,

@@ -27,11 +27,12 @@ use Rattle.bed_lang.specs.declared.module.Hint.TheVariants as hint
 use Rattle.bed_names.specs.declared.error.NameError.{NameError}
 use Rattle.bed_names.specs.declared.error.NameError.TheVariants.{Twice, Unknown, Sort as OfOtherSort, Arity, Dead, MissingJoin, FallsOff, StackRoom, Memory}
 use Rattle.bed_names.specs.Faults.{fault_if, all_faults}
-use Rattle.bed_names.specs.Declarations.{signature_named, predicate_named, label_named, is_among, sort_of}
+use Rattle.bed_lang.specs.Lookups.{signature_named, predicate_named, label_signature}
+use Rattle.bed_names.specs.Names.{is_among, sort_of}
 use Rattle.bed_names.specs.Terms.{Visible, with_names, is_hole, sort_faults, found_faults, word_faults_if, asked_by, has_other_number, first_sort, behind_first, name_faults, variable_faults, label_faults, signature_name_faults, word_step, word_faults, seq_step, seq_faults, bare_faults, arg_faults, args_faults, predicate_name_faults, applied_faults, pure_faults, atom_faults, term_faults, terms_faults, twice_after, twice_faults, bind_names, assertion_faults, option_faults, has_no_case, hint_faults, hints_faults}
 use Rattle.bed_print.proofs.Places.{bare_option, bare_name, bare_var, bare_word, bare_seq, bare_arg, bare_pure, bare_atom, bare_term, bare_bind, bare_assertion, bare_predicate, bare_hint}
 use Rattle.bed_print.proofs.BareRolls.{bare_word_layer, bare_word-roll, bare_seq_layer, bare_seq-roll}
-use Rattle.bed_print.proofs.NamesPlaces.{bare_visible, asked_by_bare, first_sort_bare, behind_first_bare, bind_names_bare, with_names_bare, signature_named_bare, predicate_named_bare, label_named_bare, is_among_bare, sort_of_bare}
+use Rattle.bed_print.proofs.NamesPlaces.{bare_visible, asked_by_bare, first_sort_bare, behind_first_bare, bind_names_bare, with_names_bare, signature_named_bare, predicate_named_bare, label_signature_bare, is_among_bare, sort_of_bare}
 
 -- ---- faults at place 0
 
@@ -118,10 +119,10 @@ module _ (v : Visible) where
   variable_bare asked var.Hole = none
 
   pub label_bare : (f : Name) → Unplaced (label_faults v' (bare_name f)) (label_faults v f)
-  label_bare f = tested (ap is_none (label_named_bare v.decls f) ∙ none_bare bare_name (label_named v.decls f)) (Unknown f.at)
+  label_bare f = tested (ap is_none (label_signature_bare v.decls f) ∙ none_bare bare_name (label_signature v.decls f.bytes)) (Unknown f.at)
 
   pub signature_name_bare : (x : Name) → Unplaced (signature_name_faults v' (bare_name x)) (signature_name_faults v x)
-  signature_name_bare x = tested (ap is_none (signature_named_bare v.decls x) ∙ none_bare _ (signature_named v.decls x)) (Unknown x.at)
+  signature_name_bare x = tested (ap is_none (signature_named_bare v.decls x) ∙ none_bare _ (signature_named v.decls x.bytes)) (Unknown x.at)
 
   abbrev WordBare : Word → Type 0
   WordBare w = Unplaced (word_faults v' (bare_word w)) (word_faults v w)
@@ -195,16 +196,16 @@ module _ (v : Visible) where
       (args_bare holes (behind_first ps) (behind_first ps') more (ap behind_first e ∙ behind_first_bare ps))
 
   predicate_name_bare : (x : Name) → Unplaced (predicate_name_faults v' (bare_name x)) (predicate_name_faults v x)
-  predicate_name_bare x = tested (ap is_none (predicate_named_bare v.decls x) ∙ none_bare _ (predicate_named v.decls x)) (Unknown x.at)
+  predicate_name_bare x = tested (ap is_none (predicate_named_bare v.decls x) ∙ none_bare _ (predicate_named v.decls x.bytes)) (Unknown x.at)
 
   applied_bare : (holes : Bool) (x : Name) (as' : List Arg)
       → Unplaced (applied_faults v' holes (bare_name x) (map bare_arg as')) (applied_faults v holes x as')
   applied_bare holes x as' =
       joined (predicate_name_bare x)
       (joined
-      (tested (ap (λ o. has_other_number o (map bare_arg as')) (predicate_named_bare v.decls x) ∙ other_number_bare (predicate_named v.decls x) as') (Arity x.at))
-      (args_bare holes (asked_by (predicate_named v.decls x) as') _ as'
-      (ap (λ o. asked_by o (map bare_arg as')) (predicate_named_bare v.decls x) ∙ asked_by_bare (predicate_named v.decls x) as')))
+      (tested (ap (λ o. has_other_number o (map bare_arg as')) (predicate_named_bare v.decls x) ∙ other_number_bare (predicate_named v.decls x.bytes) as') (Arity x.at))
+      (args_bare holes (asked_by (predicate_named v.decls x.bytes) as') _ as'
+      (ap (λ o. asked_by o (map bare_arg as')) (predicate_named_bare v.decls x) ∙ asked_by_bare (predicate_named v.decls x.bytes) as')))
 
   pub pure_bare : (p : Pure) → Unplaced (pure_faults v' (bare_pure p)) (pure_faults v p)
   pure_bare (pure.Equal a b) = joined (word_bare a) (word_bare b)
@@ -264,7 +265,7 @@ module _ (v : Visible) where
   pub hint_bare : (h : Hint) → Unplaced (hint_faults (bare_visible v) (bare_hint h)) (hint_faults v h)
   hint_bare (hint.Unfold x at) = joined (predicate_name_bare v x) (option_bare at)
   hint_bare (hint.Fold x as' n) =
-      joined (tested (ap (λ o. has_no_case o n) (predicate_named_bare v.decls x) ∙ no_case_bare (predicate_named v.decls x) n) (Arity x.at))
+      joined (tested (ap (λ o. has_no_case o n) (predicate_named_bare v.decls x) ∙ no_case_bare (predicate_named v.decls x.bytes) n) (Arity x.at))
       (applied_bare v true x as')
   hint_bare (hint.Append a) = word_bare v a
   hint_bare (hint.Divide a b) = joined (word_bare v a) (word_bare v b)

@@ -12,7 +12,8 @@ use Rattle.bed_lang.specs.declared.condition.Decls.{Decls}
 use Rattle.bed_names.specs.declared.error.NameError.TheVariants.{FallsOff, StackRoom}
 use Rattle.bed_names.specs.Faults.{fault_if}
 use Rattle.bed_lang.specs.Declarations.{declarations}
-use Rattle.bed_names.specs.Declarations.{signature_named, words}
+use Rattle.bed_lang.specs.Lookups.{signature_named}
+use Rattle.bed_names.specs.Names.{words}
 use Rattle.bed_names.specs.Terms.{Visible, bind_names, assertion_faults}
 use Rattle.bed_names.specs.Statements.{Surroundings, body_falls, body_faults}
 use Rattle.bed_names.specs.Modules.{plain, signature_names, signature_faults, predicate_faults, params_of, logical_of, area_of, locals_room_faults, function_visible, inside, faults_under, function_faults, import_faults, name_spaces_faults, items_faults, faults}
@@ -81,8 +82,8 @@ module _ (d : Decls) where
   function_bare : (f : Function) → Unplaced (function_faults d' (bare_function f)) (function_faults d f)
   function_bare f =
       joined (signature_name_bare (plain d [] false) f.signature)
-      (subst (λ s. Unplaced (faults_under d' s (bare_function f)) (faults_under d (signature_named d f.signature) f)) (sym (own_signature_bare d f))
-      (under_bare (signature_named d f.signature) f))
+      (subst (λ s. Unplaced (faults_under d' s (bare_function f)) (faults_under d (signature_named d f.signature.bytes) f)) (sym (own_signature_bare d f))
+      (under_bare (signature_named d f.signature.bytes) f))
 
   name_spaces_bare : Unplaced (name_spaces_faults d') (name_spaces_faults d)
   name_spaces_bare =

@@ -5,15 +5,15 @@ mod Clean
 mod FaultPlaces
 mod Fronts
 mod ItemFaultPlaces
-mod LayoutLaws
+mod LayoutLemmas
 mod Lexemes
 mod Lexing
-mod ListLaws
+mod ListLemmas
 mod NamesPlaces
 mod Nonterminals
 mod Numbers
 mod Pieces
-mod PlaceLaws
+mod PlaceLemmas
 mod Places
 mod Productions
 mod Replacing
@@ -33,5 +33,4 @@ mod WordedItems
 mod WordedKinds
 mod WordedResolved
 mod WordedScopes
-mod WordedStatements
 mod WordedTrees

@@ -1,6 +1,6 @@
 -- What a module declares, what is in scope, and what is found under a name, where every place is set to 0.
 use Rattle.std.proofs.Common.{◌≡◌, ◌∙◌, sym, ap, ap₂, refl, ℕ, Bool, true, false, List, [], ◌∷◌, map, length, Option, None, Some, bytes_eq}
-use Rattle.std.specs.Prelude.{if◌then◌else◌, ◌||◌, ◌==◌}
+use Rattle.std.specs.Prelude.{if◌then◌else◌, ◌||◌, ◌==◌, find}
 use Rattle.std.proofs.lemmas.List.{length-map, map-append}
 use Rattle.bed_lang.specs.declared.word.Name.{Name}
 use Rattle.bed_lang.specs.declared.logic.Arg.{Arg}
@@ -8,7 +8,8 @@ use Rattle.bed_lang.specs.declared.logic.Bind.{Bind}
 use Rattle.bed_lang.specs.declared.module.Signature.{Signature}
 use Rattle.bed_lang.specs.declared.module.Predicate.{Predicate}
 use Rattle.bed_lang.specs.declared.condition.Decls.{Decls}
-use Rattle.bed_names.specs.Declarations.{found, named_signatures, named_predicates, named_labels, signature_named, predicate_named, label_named, is_among, sort_of, words, sequences}
+use Rattle.bed_lang.specs.Lookups.{first_signature, signature_named, predicate_named, second_of, label_signature}
+use Rattle.bed_names.specs.Names.{is_among, sort_of, words, sequences}
 use Rattle.bed_names.specs.Terms.{Visible, with_names, bind_names, asked_by, first_sort, behind_first}
 use Rattle.bed_print.proofs.Places.{bare_option, bare_name, bare_arg, bare_bind, bare_signature, bare_predicate}
 
@@ -53,28 +54,33 @@ if_found bare true x r q e = refl
 if_found bare false x r q e = e
 
 signatures_found : (ss : List Signature) (x : List ℕ)
-    → found (named_signatures (map bare_signature ss)) x ≡ bare_option bare_signature (found (named_signatures ss) x)
+    → first_signature (map bare_signature ss) x ≡ bare_option bare_signature (first_signature ss x)
 signatures_found [] x = refl
-signatures_found (s ∷ ss) x = if_found bare_signature (bytes_eq x s.name.bytes) s _ _ (signatures_found ss x)
+signatures_found (s ∷ ss) x = if_found bare_signature (bytes_eq s.name.bytes x) s _ _ (signatures_found ss x)
 
 predicates_found : (ps : List Predicate) (x : List ℕ)
-    → found (named_predicates (map bare_predicate ps)) x ≡ bare_option bare_predicate (found (named_predicates ps) x)
+    → find (λ p. bytes_eq p.name.bytes x) (map bare_predicate ps) ≡ bare_option bare_predicate (find (λ p. bytes_eq p.name.bytes x) ps)
 predicates_found [] x = refl
-predicates_found (p ∷ ps) x = if_found bare_predicate (bytes_eq x p.name.bytes) p _ _ (predicates_found ps x)
+predicates_found (p ∷ ps) x = if_found bare_predicate (bytes_eq p.name.bytes x) p _ _ (predicates_found ps x)
+
+if_second : (b : Bool) (l : Name × Name) (r q : Option (Name × Name)) → second_of r ≡ bare_option bare_name (second_of q)
+    → second_of (if b then Some (bare_label l) else r) ≡ bare_option bare_name (second_of (if b then Some l else q))
+if_second true l r q e = refl
+if_second false l r q e = e
 
 labels_found : (ls : List (Name × Name)) (x : List ℕ)
-    → found (named_labels (map bare_label ls)) x ≡ bare_option bare_name (found (named_labels ls) x)
+    → second_of (find (λ l. bytes_eq l.0.bytes x) (map bare_label ls)) ≡ bare_option bare_name (second_of (find (λ l. bytes_eq l.0.bytes x) ls))
 labels_found [] x = refl
-labels_found (l ∷ ls) x = if_found bare_name (bytes_eq x l.0.bytes) l.1 _ _ (labels_found ls x)
+labels_found (l ∷ ls) x = if_second (bytes_eq l.0.bytes x) l _ _ (labels_found ls x)
 
-pub signature_named_bare : (d : Decls) (x : Name) → signature_named (bare_decls d) (bare_name x) ≡ bare_option bare_signature (signature_named d x)
+pub signature_named_bare : (d : Decls) (x : Name) → signature_named (bare_decls d) x.bytes ≡ bare_option bare_signature (signature_named d x.bytes)
 signature_named_bare d x = signatures_found d.signatures x.bytes
 
-pub predicate_named_bare : (d : Decls) (x : Name) → predicate_named (bare_decls d) (bare_name x) ≡ bare_option bare_predicate (predicate_named d x)
+pub predicate_named_bare : (d : Decls) (x : Name) → predicate_named (bare_decls d) x.bytes ≡ bare_option bare_predicate (predicate_named d x.bytes)
 predicate_named_bare d x = predicates_found d.predicates x.bytes
 
-pub label_named_bare : (d : Decls) (x : Name) → label_named (bare_decls d) (bare_name x) ≡ bare_option bare_name (label_named d x)
-label_named_bare d x = labels_found d.labels x.bytes
+pub label_signature_bare : (d : Decls) (x : Name) → label_signature (bare_decls d) x.bytes ≡ bare_option bare_name (label_signature d x.bytes)
+label_signature_bare d x = labels_found d.labels x.bytes
 
 pub is_among_bare : (ys : List Name) (x : Name) → is_among (map bare_name ys) (bare_name x) ≡ is_among ys x
 is_among_bare [] x = refl

@@ -23,13 +23,14 @@ use Rattle.bed_lang.specs.declared.module.Hint.{Hint}
 use Rattle.bed_lang.specs.declared.module.Hint.TheVariants as hint
 use Rattle.bed_lang.specs.declared.statement.Stmt.{Stmt, ind-Stmt, fold-roll-Stmt, fold_out-Stmt}
 use Rattle.bed_lang.specs.declared.statement.StmtKind.{StmtKind, StmtKind-F, roll-StmtKind, map-StmtKind, fold-roll-StmtKind}
-use Rattle.bed_lang.specs.declared.statement.StmtKind.TheVariants.{rolls-Assign, rolls-Compute, rolls-Load, rolls-LoadByte, rolls-Store, rolls-StoreByte, rolls-Call, rolls-If, rolls-While, rolls-Return, rolls-Hint, rolls-Find, rolls-Walk}
 use Rattle.bed_lang.specs.declared.condition.Decls.{Decls}
 use Rattle.bed_lang.specs.Declarations.{declarations}
-use Rattle.bed_names.specs.Declarations.{signature_named, predicate_named, sequences}
+use Rattle.bed_lang.specs.Lookups.{signature_named, predicate_named}
+use Rattle.bed_names.specs.Names.{sequences}
 use Rattle.bed_names.specs.Terms.{Visible, with_names, is_hole, asked_by, first_sort, behind_first}
 use Rattle.bed_names.specs.Modules.{plain, signature_names, function_visible}
 use Rattle.bed_names.specs.Resolved.{bare_sort, bare_variable, variable_arg, resolved_arg, resolved_args, resolved_applied, resolved_atom, resolved_term, resolved_assertion, resolved_hint, resolved_join, resolved_keep, resolved_step, resolved_stmt_step, resolved_kind, resolved_stmt, resolved_signature, resolved_predicate, resolved_function, resolved_with, resolved}
+use Rattle.bed_names.proofs.ArgumentLaws.{changed_layer, changed_below, changed_kind-roll}
 use Rattle.bed_print.proofs.Places.{bare_option, bare_name, bare_var, bare_seq, bare_arg, bare_atom, bare_term, bare_bind, bare_assertion, bare_signature, bare_predicate, bare_operand, bare_test, bare_hint, bare_join, bare_kind_step, bare_stmt_step, bare_stmt_kind, bare_stmt, bare_function, bare_module}
 use Rattle.bed_print.proofs.BareRolls.{Layer, bare_kind_layer, bare_below, bare_kind-roll}
 use Rattle.bed_print.proofs.WordTrees.{bare_word-Var, bare_seq-Var}
@@ -71,8 +72,8 @@ module _ (v : Visible) where
 
   applied_bare : (x : Name) (xs : List Arg) → resolved_applied v' (bare_name x) (map bare_arg xs) ≡ map bare_arg (resolved_applied v x xs)
   applied_bare x xs =
-      args_bare (asked_by (predicate_named v.decls x) xs) _ xs
-      (ap (λ p. asked_by p (map bare_arg xs)) (predicate_named_bare v.decls x) ∙ asked_by_bare (predicate_named v.decls x) xs)
+      args_bare (asked_by (predicate_named v.decls x.bytes) xs) _ xs
+      (ap (λ p. asked_by p (map bare_arg xs)) (predicate_named_bare v.decls x) ∙ asked_by_bare (predicate_named v.decls x.bytes) xs)
 
   atom_bare : (a : Atom) → resolved_atom v' (bare_atom a) ≡ bare_atom (resolved_atom v a)
   atom_bare (atom.Cell a b) = refl
@@ -125,46 +126,6 @@ module _ (v : Visible) where
 
 -- ---- statements
 
-module _ (v : Visible) where
-  -- what resolving makes of a kind of statement, by its outermost part
-  abbrev resolved_layer : Layer → Layer
-  resolved_layer (StmtKind-F.Assign x a) = StmtKind-F.Assign x a
-  resolved_layer (StmtKind-F.Compute x o a b) = StmtKind-F.Compute x o a b
-  resolved_layer (StmtKind-F.Load x p) = StmtKind-F.Load x p
-  resolved_layer (StmtKind-F.LoadByte x p) = StmtKind-F.LoadByte x p
-  resolved_layer (StmtKind-F.Store p a) = StmtKind-F.Store p a
-  resolved_layer (StmtKind-F.StoreByte p a) = StmtKind-F.StoreByte p a
-  resolved_layer (StmtKind-F.Call place x target via xs hints after) =
-      StmtKind-F.Call place x target via xs (map (resolved_hint v) hints) (resolved_assertion v after)
-  resolved_layer (StmtKind-F.If t ys ns j) = StmtKind-F.If t ys ns (resolved_join v j)
-  resolved_layer (StmtKind-F.While t place inv body) = StmtKind-F.While t place (resolved_assertion v inv) body
-  resolved_layer (StmtKind-F.Return a) = StmtKind-F.Return a
-  resolved_layer (StmtKind-F.Hint h) = StmtKind-F.Hint (resolved_hint v h)
-  resolved_layer (StmtKind-F.Find n x a p s u t keep body) = StmtKind-F.Find n x a p s u t (resolved_keep v u t keep) body
-  resolved_layer (StmtKind-F.Walk n x p s u t keep body) = StmtKind-F.Walk n x p s u t (resolved_keep v u t keep) body
-
-  step_rolled : (x : Layer) → resolved_step v x ≡ roll-StmtKind (resolved_layer x)
-  step_rolled (StmtKind-F.Assign x a) = sym (rolls-Assign x a)
-  step_rolled (StmtKind-F.Compute x o a b) = sym (rolls-Compute x o a b)
-  step_rolled (StmtKind-F.Load x p) = sym (rolls-Load x p)
-  step_rolled (StmtKind-F.LoadByte x p) = sym (rolls-LoadByte x p)
-  step_rolled (StmtKind-F.Store p a) = sym (rolls-Store p a)
-  step_rolled (StmtKind-F.StoreByte p a) = sym (rolls-StoreByte p a)
-  step_rolled (StmtKind-F.Call place x target via xs hints after) =
-      sym (rolls-Call place x target via xs (map (resolved_hint v) hints) (resolved_assertion v after))
-  step_rolled (StmtKind-F.If t ys ns j) = sym (rolls-If t ys ns (resolved_join v j))
-  step_rolled (StmtKind-F.While t place inv body) = sym (rolls-While t place (resolved_assertion v inv) body)
-  step_rolled (StmtKind-F.Return a) = sym (rolls-Return a)
-  step_rolled (StmtKind-F.Hint h) = sym (rolls-Hint (resolved_hint v h))
-  step_rolled (StmtKind-F.Find n x a p s u t keep body) = sym (rolls-Find n x a p s u t (resolved_keep v u t keep) body)
-  step_rolled (StmtKind-F.Walk n x p s u t keep body) = sym (rolls-Walk n x p s u t (resolved_keep v u t keep) body)
-
-  abbrev resolved_below : Layer → Layer
-  resolved_below = map-StmtKind StmtKind Stmt StmtKind Stmt (resolved_kind v) (resolved_stmt v)
-
-  resolved_kind-roll : (x : Layer) → resolved_kind v (roll-StmtKind x) ≡ roll-StmtKind (resolved_layer (resolved_below x))
-  resolved_kind-roll x = fold-roll-StmtKind StmtKind Stmt (resolved_step v) (resolved_stmt_step v) x ∙ step_rolled (resolved_below x)
-
 -- the two ways to the same layer: places first, or names first
 module _ (v : Visible) where
   abbrev w : Visible
@@ -190,10 +151,10 @@ module _ (v : Visible) where
   bodies (s ∷ ss) = ap₂ (λ y ys. y ∷ ys) s.1 (bodies ss)
 
   abbrev places_first : Layer → Layer
-  places_first x = resolved_layer w (resolved_below w (bare_kind_layer (bare_below x)))
+  places_first x = changed_layer resolved_arg w (changed_below resolved_arg w (bare_kind_layer (bare_below x)))
 
   abbrev names_first : Layer → Layer
-  names_first x = bare_kind_layer (bare_below (resolved_layer v (resolved_below v x)))
+  names_first x = bare_kind_layer (bare_below (changed_layer resolved_arg v (changed_below resolved_arg v x)))
 
   kind_layer : (y : StmtKind-F Kinds Stmts) → places_first (trees y) ≡ names_first (trees y)
   kind_layer (StmtKind-F.Assign x a) = refl
@@ -219,8 +180,8 @@ module _ (v : Visible) where
 
   kind_roll : (x : Layer) → places_first x ≡ names_first x → KindBare (roll-StmtKind x)
   kind_roll x e =
-      ap (resolved_kind w) (bare_kind-roll x) ∙ resolved_kind-roll w (bare_kind_layer (bare_below x)) ∙ ap roll-StmtKind e
-      ∙ sym (ap bare_stmt_kind (resolved_kind-roll v x) ∙ bare_kind-roll (resolved_layer v (resolved_below v x)))
+      ap (resolved_kind w) (bare_kind-roll x) ∙ changed_kind-roll resolved_arg w (bare_kind_layer (bare_below x)) ∙ ap roll-StmtKind e
+      ∙ sym (ap bare_stmt_kind (changed_kind-roll resolved_arg v x) ∙ bare_kind-roll (changed_layer resolved_arg v (changed_below resolved_arg v x)))
 
   abbrev at_zero : StmtKind → Stmt
   at_zero k = record { at = 0; kind = k }
@@ -268,8 +229,8 @@ module _ (d : Decls) where
   function_bare f =
       ap made
       (ap (λ v. map (resolved_stmt v) (map bare_stmt f.body))
-      (ap (λ s. function_visible d' s (bare_function f)) (own_signature_bare d f) ∙ function_visible_bare d (signature_named d f.signature) f)
-      ∙ maps_agree bare_stmt _ _ bare_stmt (stmt_bare (function_visible d (signature_named d f.signature) f)) f.body)
+      (ap (λ s. function_visible d' s (bare_function f)) (own_signature_bare d f) ∙ function_visible_bare d (signature_named d f.signature.bytes) f)
+      ∙ maps_agree bare_stmt _ _ bare_stmt (stmt_bare (function_visible d (signature_named d f.signature.bytes) f)) f.body)
     where
       made : List Stmt → Function
       made body = record (bare_function f) { body = body }

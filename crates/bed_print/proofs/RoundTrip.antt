@@ -29,7 +29,7 @@ use Rattle.bed_print.proofs.Sameness.{modules}
 use Rattle.bed_print.proofs.Worded.{worded}
 use Rattle.bed_print.proofs.WordedKinds.{module_same}
 use Rattle.bed_print.proofs.Bracketing.{HasText, worded_has_text}
-use Rattle.bed_print.proofs.PlaceLaws.{same_faults, same_resolved}
+use Rattle.bed_print.proofs.PlaceLemmas.{same_faults, same_resolved}
 use Rattle.bed_print.proofs.WordedItems.{faults_worded}
 use Rattle.bed_print.proofs.WordedResolved.{resolved_worded}
 

@@ -10,7 +10,8 @@ use Rattle.bed_lang.specs.declared.module.Module.{Module}
 use Rattle.bed_lang.specs.declared.condition.Decls.{Decls}
 use Rattle.bed_lang.specs.Prelude.{prelude, lseg, lst}
 use Rattle.bed_lang.specs.Declarations.{labels_of, declarations}
-use Rattle.bed_names.specs.Declarations.{signature_named, words}
+use Rattle.bed_lang.specs.Lookups.{signature_named}
+use Rattle.bed_names.specs.Names.{words}
 use Rattle.bed_names.specs.Terms.{Visible}
 use Rattle.bed_names.specs.Modules.{plain, signature_names, params_of, logical_of, area_of, visible_inside, function_visible}
 use Rattle.bed_print.proofs.Places.{bare_option, bare_name, bare_bind, bare_signature, bare_predicate, bare_import, bare_function, bare_module}
@@ -88,5 +89,5 @@ function_visible_bare d s f =
 
 -- the signature of a function
 pub own_signature_bare : (d : Decls) (f : Function)
-    → signature_named (bare_decls d) (bare_function f).signature ≡ bare_option bare_signature (signature_named d f.signature)
+    → signature_named (bare_decls d) f.signature.bytes ≡ bare_option bare_signature (signature_named d f.signature.bytes)
 own_signature_bare d f = signature_named_bare d f.signature

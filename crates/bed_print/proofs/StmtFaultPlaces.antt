@@ -17,12 +17,13 @@ use Rattle.bed_lang.specs.declared.condition.Decls.{Decls}
 use Rattle.bed_names.specs.declared.error.NameError.{NameError}
 use Rattle.bed_names.specs.declared.error.NameError.TheVariants.{Twice, Unknown, Arity, Dead, MissingJoin, StackRoom}
 use Rattle.bed_names.specs.Faults.{fault_if}
-use Rattle.bed_names.specs.Declarations.{label_named, sequences}
+use Rattle.bed_lang.specs.Lookups.{label_signature, named_signature}
+use Rattle.bed_names.specs.Names.{sequences}
 use Rattle.bed_names.specs.Terms.{Visible, with_names}
-use Rattle.bed_names.specs.Statements.{Surroundings, frame, signature_of_label, callee, room_faults, callee_faults, is_local, operand_place, local_faults, operand_faults, operands_faults, test_faults, via_faults, assign_faults, compute_faults, move_faults, call_head_faults, call_faults, keep_faults, other_local_faults, key_faults, list_keep_faults, find_faults, walk_faults, Judged, falls_after, falls_through, faults_after, list_faults, straight, join_faults, kind_step, stmt_step, judged_kind, judged, body_falls, body_faults}
+use Rattle.bed_names.specs.Statements.{Surroundings, frame, callee, room_faults, callee_faults, is_local, operand_place, local_faults, operand_faults, operands_faults, test_faults, via_faults, assign_faults, compute_faults, move_faults, call_head_faults, call_faults, keep_faults, other_local_faults, key_faults, list_keep_faults, find_faults, walk_faults, Judged, falls_after, falls_through, faults_after, list_faults, straight, join_faults, kind_step, stmt_step, judged_kind, judged, body_falls, body_faults}
 use Rattle.bed_print.proofs.Places.{bare_option, bare_name, bare_seq, bare_assertion, bare_signature, bare_operand, bare_place, bare_test, bare_hint, bare_join, bare_kind_step, bare_stmt_step, bare_stmt_kind, bare_stmt}
 use Rattle.bed_print.proofs.BareRolls.{Layer, bare_kind_layer, bare_below, bare_kind-roll}
-use Rattle.bed_print.proofs.NamesPlaces.{bare_decls, bare_visible, with_names_bare, signature_named_bare, label_named_bare, is_among_bare}
+use Rattle.bed_print.proofs.NamesPlaces.{bare_decls, bare_visible, with_names_bare, signature_named_bare, label_signature_bare, is_among_bare}
 use Rattle.bed_print.proofs.FaultPlaces.{Unplaced, none, joined, tested, all_joined, label_bare, signature_name_bare, seq_bare, twice_bare, assertion_bare, assertion_bare_in, hint_bare, hints_bare}
 
 abbrev pub bare_surroundings : Surroundings → Surroundings
@@ -34,7 +35,7 @@ frame_bare : (s : Signature) → frame (bare_signature s) ≡ frame s
 frame_bare s = ap (λ n. 1 + n + s.reserve) (length-map s.params bare_name)
 
 of_label_bare : (d : Decls) (x : Option Name)
-    → signature_of_label (bare_decls d) (bare_option bare_name x) ≡ bare_option bare_signature (signature_of_label d x)
+    → named_signature (bare_decls d) (bare_option bare_name x) ≡ bare_option bare_signature (named_signature d x)
 of_label_bare d None = refl
 of_label_bare d (Some x) = signature_named_bare d x
 
@@ -43,7 +44,7 @@ callee_bare : (d : Decls) (target : Operand) (via : Option Name)
 callee_bare d target (Some x) = signature_named_bare d x
 callee_bare d (operand.Number n) None = refl
 callee_bare d (operand.Local x) None = refl
-callee_bare d (operand.Label f) None = ap (signature_of_label (bare_decls d)) (label_named_bare d f) ∙ of_label_bare d (label_named d f)
+callee_bare d (operand.Label f) None = ap (named_signature (bare_decls d)) (label_signature_bare d f) ∙ of_label_bare d (label_signature d f.bytes)
 
 room_bare : (area : Option ℕ) (needs at : ℕ) → Unplaced (room_faults area needs 0) (room_faults area needs at)
 room_bare None needs at = none

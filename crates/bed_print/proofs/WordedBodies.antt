@@ -16,13 +16,14 @@ use Rattle.bed_lang.specs.declared.condition.Decls.{Decls}
 use Rattle.bed_names.specs.declared.error.NameError.{NameError}
 use Rattle.bed_names.specs.declared.error.NameError.TheVariants.{Twice, Dead, MissingJoin}
 use Rattle.bed_names.specs.Faults.{fault_if}
-use Rattle.bed_names.specs.Declarations.{signature_named, label_named, sequences}
+use Rattle.bed_lang.specs.Lookups.{signature_named, label_signature, named_signature}
+use Rattle.bed_names.specs.Names.{sequences}
 use Rattle.bed_names.specs.Terms.{with_names, seq_faults, twice_faults, assertion_faults, hints_faults}
-use Rattle.bed_names.specs.Statements.{Surroundings, Judged, signature_of_label, callee, callee_faults, is_local, operand_place, local_faults, operand_faults, operands_faults, test_faults, via_faults, assign_faults, move_faults, call_head_faults, keep_faults, other_local_faults, key_faults, list_keep_faults, find_faults, walk_faults, falls_through, list_faults, straight, join_faults, kind_step, stmt_step, judged}
-use Rattle.bed_print.proofs.Worded.{worded_assertion, worded_hint, worded_join, worded_keep, worded_stmt}
+use Rattle.bed_names.specs.Statements.{Surroundings, Judged, callee, callee_faults, is_local, operand_place, local_faults, operand_faults, operands_faults, test_faults, via_faults, assign_faults, move_faults, call_head_faults, keep_faults, other_local_faults, key_faults, list_keep_faults, find_faults, walk_faults, falls_through, list_faults, straight, join_faults, kind_step, stmt_step, judged}
+use Rattle.bed_names.proofs.ArgumentLaws.{changed_layer, fold_changed}
+use Rattle.bed_print.proofs.Worded.{worded_arg, worded_assertion, worded_hint, worded_join, worded_keep, worded_stmt}
 use Rattle.bed_print.proofs.WordedScopes.{SameDeclarations, SameSignatures}
 use Rattle.bed_print.proofs.WordedFaults.{both, all_same, under, label_under, signature_name_under, seq_under, hints_under, hint_under, assertion_under, hints_worded, hint_worded, assertion_worded}
-use Rattle.bed_print.proofs.WordedStatements.{worded_layer, fold_worded}
 
 -- ---- under other declarations in which names stand for the same
 
@@ -68,17 +69,17 @@ module _ (d : Decls) (i : Surroundings) (same : SameDeclarations d i.visible.dec
   abbrev CalleeSame : Operand → Option Name → Type 0
   CalleeSame target via = SameSignatures (callee d target via) (callee i.visible.decls target via)
 
-  of_label : (o q : Option Name) → o ≡ q → SameSignatures (signature_of_label d o) (signature_of_label i.visible.decls q)
+  of_label : (o q : Option Name) → o ≡ q → SameSignatures (named_signature d o) (named_signature i.visible.decls q)
   of_label None None e = tt
   of_label None (Some y) e = absurd (cc)
   of_label (Some x) None e = absurd (cc)
   of_label (Some x) (Some y) e =
       let equal : x ≡ y = cc in
-      subst (λ z. SameSignatures (signature_named d x) (signature_named i.visible.decls z)) equal (same.signature x)
+      subst (λ z. SameSignatures (signature_named d x.bytes) (signature_named i.visible.decls z.bytes)) equal (same.signature x)
 
   callee_around : (target : Operand) (via : Option Name) → CalleeSame target via
   callee_around target (Some x) = same.signature x
-  callee_around (operand.Label f) None = of_label (label_named d f) (label_named i.visible.decls f) (same.label f)
+  callee_around (operand.Label f) None = of_label (label_signature d f.bytes) (label_signature i.visible.decls f.bytes) (same.label f)
   callee_around (operand.Number n) None = tt
   callee_around (operand.Local x) None = tt
 
@@ -186,7 +187,7 @@ module _ (i : Surroundings) where
   join_worded at some none None = refl
   join_worded at some none (Some j) = ap (λ l. fault_if (not (some || none)) (Dead j.place) ++ l) (assertion_worded i.visible j.assertion)
 
-  step_worded : (x : StmtKind-F (ℕ → Judged) Judged) (at : ℕ) → kind_step i (worded_layer i.visible x) at ≡ kind_step i x at
+  step_worded : (x : StmtKind-F (ℕ → Judged) Judged) (at : ℕ) → kind_step i (changed_layer worded_arg i.visible x) at ≡ kind_step i x at
   step_worded (StmtKind-F.Assign x a) at = refl
   step_worded (StmtKind-F.Compute x op a b) at = refl
   step_worded (StmtKind-F.Load x p) at = refl
@@ -227,7 +228,7 @@ module _ (i : Surroundings) where
 
   judged_worded : (s : Stmt) → judged i (worded_stmt i.visible s) ≡ judged i s
   judged_worded s =
-      fold_worded i.visible (kind_step i) (stmt_step i) s
+      fold_changed worded_arg i.visible (kind_step i) (stmt_step i) s
       ∙ ap (λ step. fold-Stmt (ℕ → Judged) Judged step (stmt_step i) s)
       (fun_ext (λ x. fun_ext (step_worded x)))
 

@@ -28,7 +28,8 @@ use Rattle.bed_lang.specs.declared.condition.Decls.{Decls}
 use Rattle.bed_names.specs.declared.error.NameError.{NameError}
 use Rattle.bed_names.specs.declared.error.NameError.TheVariants.{Unknown, Arity}
 use Rattle.bed_names.specs.Faults.{fault_if, all_faults}
-use Rattle.bed_names.specs.Declarations.{signature_named, predicate_named, sort_of}
+use Rattle.bed_lang.specs.Lookups.{signature_named, predicate_named}
+use Rattle.bed_names.specs.Names.{sort_of}
 use Rattle.bed_names.specs.Terms.{Visible, with_names, is_hole, sort_faults, found_faults, asked_by, has_other_number, first_sort, behind_first, name_faults, label_faults, signature_name_faults, word_step, word_faults, seq_step, seq_faults, bare_faults, arg_faults, args_faults, predicate_name_faults, applied_faults, pure_faults, atom_faults, term_faults, twice_faults, bind_names, assertion_faults, option_faults, has_no_case, hint_faults, hints_faults}
 use Rattle.bed_names.specs.Resolved.{bare_sort}
 use Rattle.bed_print.proofs.Worded.{bracketed, worded_arg, worded_args, worded_applied, worded_atom, worded_term, worded_assertion, worded_hint}
@@ -59,7 +60,7 @@ module _ (d : Decls) (v : Visible) (same : SameDeclarations d v.decls) where
 
   pub signature_name_under : (x : Name) → signature_name_faults (under d v) x ≡ signature_name_faults v x
   signature_name_under x =
-      ap (λ b. fault_if b (Unknown x.at)) (unknown_signature (signature_named d x) (signature_named v.decls x) (same.signature x))
+      ap (λ b. fault_if b (Unknown x.at)) (unknown_signature (signature_named d x.bytes) (signature_named v.decls x.bytes) (same.signature x))
 
   word_step_under : (w : Word-F (List NameError)) → word_step (under d v) w ≡ word_step v w
   word_step_under (Word-F.Number n) = refl
@@ -98,12 +99,12 @@ module _ (d : Decls) (v : Visible) (same : SameDeclarations d v.decls) where
 
   predicate_name_under : (x : Name) → predicate_name_faults (under d v) x ≡ predicate_name_faults v x
   predicate_name_under x =
-      ap (λ b. fault_if b (Unknown x.at)) (unknown_predicate (predicate_named d x) (predicate_named v.decls x) (same.predicate x))
+      ap (λ b. fault_if b (Unknown x.at)) (unknown_predicate (predicate_named d x.bytes) (predicate_named v.decls x.bytes) (same.predicate x))
 
   applied_under : (holes : Bool) (x : Name) (as' : List Arg) → applied_faults (under d v) holes x as' ≡ applied_faults v holes x as'
   applied_under holes x as' =
-      let old : Option Predicate = predicate_named v.decls x in
-      let new : Option Predicate = predicate_named d x in
+      let old : Option Predicate = predicate_named v.decls x.bytes in
+      let new : Option Predicate = predicate_named d x.bytes in
       both (predicate_name_faults (under d v) x)
       (fault_if (has_other_number new as') (Arity x.at) ++ args_faults (under d v) holes (asked_by new as') as')
       (predicate_name_faults v x)
@@ -145,9 +146,9 @@ module _ (d : Decls) (v : Visible) (same : SameDeclarations d v.decls) where
       both (predicate_name_faults (under d v) x) (option_faults (under d v) at) (predicate_name_faults v x) (option_faults v at)
       (predicate_name_under x) (option_under at)
   hint_under (hint.Fold x as' n) =
-      both (fault_if (has_no_case (predicate_named d x) n) (Arity x.at)) (applied_faults (under d v) true x as')
-      (fault_if (has_no_case (predicate_named v.decls x) n) (Arity x.at)) (applied_faults v true x as')
-      (ap (λ b. fault_if b (Arity x.at)) (no_case_same (predicate_named d x) (predicate_named v.decls x) n (same.predicate x)))
+      both (fault_if (has_no_case (predicate_named d x.bytes) n) (Arity x.at)) (applied_faults (under d v) true x as')
+      (fault_if (has_no_case (predicate_named v.decls x.bytes) n) (Arity x.at)) (applied_faults v true x as')
+      (ap (λ b. fault_if b (Arity x.at)) (no_case_same (predicate_named d x.bytes) (predicate_named v.decls x.bytes) n (same.predicate x)))
       (applied_under true x as')
   hint_under (hint.Append a) = word_under a
   hint_under (hint.Divide a b) = words_under a b
@@ -214,7 +215,7 @@ module _ (v : Visible) where
 
   applied_worded : (holes : Bool) (x : Name) (as' : List Arg) → applied_faults v holes x (worded_applied v x as') ≡ applied_faults v holes x as'
   applied_worded holes x as' =
-      let o : Option Predicate = predicate_named v.decls x in
+      let o : Option Predicate = predicate_named v.decls x.bytes in
       let bs : List Arg = worded_args v (asked_by o as') as' in
       let long : length bs ≡ length as' = worded_length v (asked_by o as') as' in
       ap (λ l. predicate_name_faults v x ++ l)
@@ -235,7 +236,7 @@ module _ (v : Visible) where
   term_worded (term.Atom a) = atom_worded a
 
   pub hint_worded : (h : Hint) → hint_faults v (worded_hint v h) ≡ hint_faults v h
-  hint_worded (hint.Fold x as' n) = ap (λ l. fault_if (has_no_case (predicate_named v.decls x) n) (Arity x.at) ++ l) (applied_worded true x as')
+  hint_worded (hint.Fold x as' n) = ap (λ l. fault_if (has_no_case (predicate_named v.decls x.bytes) n) (Arity x.at) ++ l) (applied_worded true x as')
   hint_worded (hint.Give x a) = arg_worded false None a
   hint_worded (hint.Unfold x at) = refl
   hint_worded (hint.Append a) = refl

@@ -13,12 +13,14 @@ use Rattle.bed_names.specs.declared.error.NameError.{NameError}
 use Rattle.bed_names.specs.declared.error.NameError.TheVariants.{FallsOff}
 use Rattle.bed_names.specs.Faults.{fault_if, all_faults}
 use Rattle.bed_lang.specs.Declarations.{labels_of, declarations}
-use Rattle.bed_names.specs.Declarations.{signature_named, words}
+use Rattle.bed_lang.specs.Lookups.{signature_named}
+use Rattle.bed_names.specs.Names.{words}
 use Rattle.bed_names.specs.Terms.{Visible, twice_faults, bind_names, assertion_faults, signature_name_faults}
 use Rattle.bed_names.specs.Statements.{Judged, falls_through, list_faults, judged}
 use Rattle.bed_names.specs.Modules.{plain, without_labels, signature_names, signature_faults, predicate_faults, params_of, logical_of, locals_room_faults, inside, faults_under, function_faults, import_faults, name_spaces_faults, items_faults, faults}
+use Rattle.bed_names.proofs.ArgumentLaws.{kept_by}
 use Rattle.bed_print.proofs.Worded.{worded_assertion, worded_signature, worded_predicate, worded_function, worded_with, worded}
-use Rattle.bed_print.proofs.WordedScopes.{SameDeclarations, SameSignatures, without_labels_same, kept_by, labels_worded, declarations_worded}
+use Rattle.bed_print.proofs.WordedScopes.{SameDeclarations, SameSignatures, without_labels_same, labels_worded, declarations_worded}
 use Rattle.bed_print.proofs.WordedFaults.{both, all_same, under, assertion_under, assertion_worded, signature_name_under}
 use Rattle.bed_print.proofs.WordedBodies.{around, body_same}
 
@@ -75,9 +77,9 @@ module _ (d e : Decls) (same : SameDeclarations d e) where
   room_same None f = refl
   room_same (Some s) f = refl
 
-  inside_same : (f : Function) → faults_under d (signature_named e f.signature) (worded_function e f) ≡ faults_under e (signature_named e f.signature) f
+  inside_same : (f : Function) → faults_under d (signature_named e f.signature.bytes) (worded_function e f) ≡ faults_under e (signature_named e f.signature.bytes) f
   inside_same f =
-      let s : Option Signature = signature_named e f.signature in
+      let s : Option Signature = signature_named e f.signature.bytes in
       both (locals_room_faults s (worded_function e f))
       (twice_faults (words (params_of s) ++ logical_of s) f.locals ++ judged_faults f.end (map (judged (around d (inside e s f))) (worded_function e f).body))
       (locals_room_faults s f)
@@ -87,10 +89,10 @@ module _ (d e : Decls) (same : SameDeclarations d e) where
 
   function_same : (f : Function) → function_faults d (worded_function e f) ≡ function_faults e f
   function_same f =
-      both (signature_name_faults (plain d [] false) f.signature) (faults_under d (signature_named d f.signature) (worded_function e f))
-      (signature_name_faults (plain e [] false) f.signature) (faults_under e (signature_named e f.signature) f)
+      both (signature_name_faults (plain d [] false) f.signature) (faults_under d (signature_named d f.signature.bytes) (worded_function e f))
+      (signature_name_faults (plain e [] false) f.signature) (faults_under e (signature_named e f.signature.bytes) f)
       (name_same f.signature)
-      (under_same (signature_named d f.signature) (signature_named e f.signature) (worded_function e f) (same.signature f.signature) ∙ inside_same f)
+      (under_same (signature_named d f.signature.bytes) (signature_named e f.signature.bytes) (worded_function e f) (same.signature f.signature) ∙ inside_same f)
 
   items_same : (m : Module) → items_faults d (worded_with e m) ≡ items_faults e m
   items_same m =

@@ -1,4 +1,5 @@
 -- A scoped module has the tokens of the module with brackets round names that stand for words.
+use Rattle.std.proofs.Math.Path.{fun_ext}
 use Rattle.std.proofs.Common.{◌≡◌, ℕ, Bool, true, false, if◌then◌else◌, List, [], ◌∷◌, ◌++◌, map, Option, Some, None, refl, sym, ap, ◌∙◌, subst}
 use Rattle.bed_lang.specs.declared.word.Name.{Name}
 use Rattle.bed_lang.specs.declared.word.Sort.{Sort}
@@ -20,20 +21,21 @@ use Rattle.bed_lang.specs.declared.module.Module.{Module}
 use Rattle.bed_lang.specs.declared.module.Join.{Join}
 use Rattle.bed_lang.specs.declared.module.Hint.{Hint}
 use Rattle.bed_lang.specs.declared.module.Hint.TheVariants as hint
-use Rattle.bed_lang.specs.declared.statement.Stmt.{Stmt, ind-Stmt, fold-roll-Stmt}
-use Rattle.bed_lang.specs.declared.statement.StmtKind.{StmtKind, StmtKind-F, map-StmtKind, roll-StmtKind, fold-roll-StmtKind}
+use Rattle.bed_lang.specs.declared.statement.Stmt.{Stmt, fold-Stmt}
+use Rattle.bed_lang.specs.declared.statement.StmtKind.{StmtKind-F}
 use Rattle.bed_lang.specs.declared.condition.Decls.{Decls}
 use Rattle.bed_lex.specs.declared.token.Kind.{Kind}
 use Rattle.bed_lex.specs.declared.token.Kind.TheVariants as kind
-use Rattle.bed_names.specs.Declarations.{sequences, signature_named}
+use Rattle.bed_lang.specs.Lookups.{signature_named}
+use Rattle.bed_names.specs.Names.{sequences}
 use Rattle.bed_names.specs.Terms.{Visible, with_names, is_hole, first_sort, behind_first}
 use Rattle.bed_names.specs.Modules.{plain, signature_names, function_visible}
-use Rattle.bed_names.specs.Resolved.{bare_sort, variable_arg, resolved_arg, resolved_args, resolved_term, resolved_assertion, resolved_hint, resolved_join, resolved_step, resolved_stmt_step, resolved_kind, resolved_stmt, resolved_signature, resolved_predicate, resolved_function, resolved_with}
+use Rattle.bed_names.specs.Resolved.{bare_sort, variable_arg, resolved_arg, resolved_args, resolved_term, resolved_assertion, resolved_hint, resolved_join, resolved_stmt, resolved_signature, resolved_predicate, resolved_function, resolved_with}
 use Rattle.bed_read.specs.Classes.{MODULE, PRE, POST, PREDICATE, AFTER, FIND, WALK, FOR, AS, KEEP, HINT, FOLD, CASE, GIVE, USING, IF, WHILE, INVARIANT, JOIN, SEMICOLON, COMMA, LEFT_PAREN, RIGHT_PAREN, BAR, ASSIGN, EQUAL, STAR, HOLE}
-use Rattle.bed_print.specs.Kinds.{fixed, all_of, each_after, parted, arg_kinds, term_kinds, assertion_kinds, exists_kinds, hint_kinds, using_kinds, join_kinds, body_of, else_of, over_kinds, target_kinds, operand_kinds, test_kinds, stmt_kinds, stmt_kind_kinds, signature_kinds, predicate_kinds, function_kinds, module_kinds, word_kinds, is_name_layer, is_name_alone, binds_kinds, params_kinds, reserve_kinds, list_kinds, pair_kinds, head_kinds, locals_kinds, import_kinds}
+use Rattle.bed_print.specs.Kinds.{fixed, all_of, each_after, parted, arg_kinds, term_kinds, assertion_kinds, exists_kinds, hint_kinds, using_kinds, join_kinds, body_of, else_of, over_kinds, target_kinds, operand_kinds, test_kinds, kind_step, stmt_step, stmt_kinds, signature_kinds, predicate_kinds, function_kinds, module_kinds, word_kinds, is_name_layer, is_name_alone, binds_kinds, params_kinds, reserve_kinds, list_kinds, pair_kinds, head_kinds, locals_kinds, import_kinds}
 use Rattle.bed_print.proofs.WordTrees.{sum_of-Var, seq_kinds-Var}
-use Rattle.bed_print.proofs.StmtTrees.{stmt_kinds-of, kinds-Call, kinds-If, kinds-While, kinds-Hint, kinds-Find, kinds-Walk}
-use Rattle.bed_print.proofs.Worded.{bracketed, worded_arg, worded_args, worded_term, worded_assertion, worded_hint, worded_join, worded_step, worded_stmt_step, worded_kind, worded_stmt, worded_signature, worded_predicate, worded_function, worded_with}
+use Rattle.bed_names.proofs.ArgumentLaws.{changed_layer, fold_changed}
+use Rattle.bed_print.proofs.Worded.{bracketed, worded_arg, worded_args, worded_term, worded_assertion, worded_hint, worded_join, worded_stmt, worded_signature, worded_predicate, worded_function, worded_with}
 
 -- ---- arguments
 
@@ -138,23 +140,7 @@ join_same v (Some j) = ap (λ z. fixed JOIN ∷ (z ++ fixed SEMICOLON ∷ [])) (
 -- ---- statements
 
 module _ (v : Visible) where
-  abbrev KindSame : StmtKind → Type 0
-  KindSame k = stmt_kind_kinds (worded_kind v k) ≡ stmt_kind_kinds (resolved_kind v k)
-
-  abbrev StmtSame : Stmt → Type 0
-  StmtSame s = stmt_kinds (worded_stmt v s) ≡ stmt_kinds (resolved_stmt v s)
-
-  abbrev trees : List ((s : Stmt) × StmtSame s) → List Stmt
-  trees ss = map (λ s. s.0) ss
-
-  body_same : (ss : List ((s : Stmt) × StmtSame s)) → map stmt_kinds (map (worded_stmt v) (trees ss)) ≡ map stmt_kinds (map (resolved_stmt v) (trees ss))
-  body_same [] = refl
-  body_same (s ∷ ss) =
-      ap (λ z. z ∷ map stmt_kinds (map (worded_stmt v) (trees ss))) s.1 ∙ ap (λ z. stmt_kinds (resolved_stmt v s.0) ∷ z) (body_same ss)
-
-  layer : (y : StmtKind-F ((k : StmtKind) × KindSame k) ((s : Stmt) × StmtSame s))
-      → stmt_kind_kinds (worded_step v (map-StmtKind _ _ _ _ (worded_kind v) (worded_stmt v) (map-StmtKind _ _ _ _ (λ e. e.0) (λ e. e.0) y)))
-      ≡ stmt_kind_kinds (resolved_step v (map-StmtKind _ _ _ _ (resolved_kind v) (resolved_stmt v) (map-StmtKind _ _ _ _ (λ e. e.0) (λ e. e.0) y)))
+  layer : (x : StmtKind-F (List Kind) (List Kind)) → kind_step (changed_layer worded_arg v x) ≡ kind_step (changed_layer resolved_arg v x)
   layer (StmtKind-F.Assign x a) = refl
   layer (StmtKind-F.Compute x op a b) = refl
   layer (StmtKind-F.Load x p) = refl
@@ -162,61 +148,25 @@ module _ (v : Visible) where
   layer (StmtKind-F.Store p a) = refl
   layer (StmtKind-F.StoreByte p a) = refl
   layer (StmtKind-F.Return a) = refl
-  layer (StmtKind-F.Hint h) =
-      kinds-Hint (worded_hint v h) ∙ ap (λ z. fixed HINT ∷ (z ++ fixed SEMICOLON ∷ [])) (hint_same v h) ∙ sym (kinds-Hint (resolved_hint v h))
+  layer (StmtKind-F.Hint h) = ap (λ z. fixed HINT ∷ (z ++ fixed SEMICOLON ∷ [])) (hint_same v h)
   layer (StmtKind-F.Call place x t via args hints after) =
-      kinds-Call place x t via args (map (worded_hint v) hints) (worded_assertion v after)
-      ∙ ap (λ z. kind.Name x ∷ fixed ASSIGN ∷ ((target_kinds t via args ++ (z ++ fixed AFTER ∷ assertion_kinds (worded_assertion v after))) ++ fixed SEMICOLON ∷ [])) (using_same v hints)
+      ap (λ z. kind.Name x ∷ fixed ASSIGN ∷ ((target_kinds t via args ++ (z ++ fixed AFTER ∷ assertion_kinds (worded_assertion v after))) ++ fixed SEMICOLON ∷ [])) (using_same v hints)
       ∙ ap (λ z. kind.Name x ∷ fixed ASSIGN ∷ ((target_kinds t via args ++ (using_kinds (map (resolved_hint v) hints) ++ fixed AFTER ∷ z)) ++ fixed SEMICOLON ∷ [])) (assertion_same v after)
-      ∙ sym (kinds-Call place x t via args (map (resolved_hint v) hints) (resolved_assertion v after))
-  layer (StmtKind-F.If t ys ns j) =
-      let wy : List Stmt = map (worded_stmt v) (trees ys) in
-      let ry : List Stmt = map (resolved_stmt v) (trees ys) in
-      let wn : List Stmt = map (worded_stmt v) (trees ns) in
-      let rn : List Stmt = map (resolved_stmt v) (trees ns) in
-      kinds-If t wy wn (worded_join v j)
-      ∙ ap (λ z. fixed IF ∷ (test_kinds t ++ (body_of z ++ (else_of (map stmt_kinds wn) ++ join_kinds (worded_join v j))))) (body_same ys)
-      ∙ ap (λ z. fixed IF ∷ (test_kinds t ++ (body_of (map stmt_kinds ry) ++ (else_of z ++ join_kinds (worded_join v j))))) (body_same ns)
-      ∙ ap (λ z. fixed IF ∷ (test_kinds t ++ (body_of (map stmt_kinds ry) ++ (else_of (map stmt_kinds rn) ++ z)))) (join_same v j)
-      ∙ sym (kinds-If t ry rn (resolved_join v j))
+  layer (StmtKind-F.If t ys ns j) = ap (λ z. fixed IF ∷ (test_kinds t ++ (body_of ys ++ (else_of ns ++ z)))) (join_same v j)
   layer (StmtKind-F.While t place a body) =
-      let w : List Stmt = map (worded_stmt v) (trees body) in
-      let r : List Stmt = map (resolved_stmt v) (trees body) in
-      kinds-While t place (worded_assertion v a) w
-      ∙ ap (λ z. fixed WHILE ∷ (test_kinds t ++ fixed INVARIANT ∷ (z ++ body_of (map stmt_kinds w)))) (assertion_same v a)
-      ∙ ap (λ z. fixed WHILE ∷ (test_kinds t ++ fixed INVARIANT ∷ (assertion_kinds (resolved_assertion v a) ++ body_of z))) (body_same body)
-      ∙ sym (kinds-While t place (resolved_assertion v a) r)
+      ap (λ z. fixed WHILE ∷ (test_kinds t ++ fixed INVARIANT ∷ (z ++ body_of body))) (assertion_same v a)
   layer (StmtKind-F.Find n x k p s u t keep body) =
-      let i : Visible = with_names v (sequences (u ∷ t ∷ [])) in
-      let w : List Stmt = map (worded_stmt v) (trees body) in
-      let r : List Stmt = map (resolved_stmt v) (trees body) in
-      kinds-Find n x k p s u t (worded_assertion i keep) w
-      ∙ ap (λ z. fixed FIND ∷ kind.Name n ∷ fixed COMMA ∷ kind.Name x ∷ fixed FOR ∷ (operand_kinds k ++ ((list_kinds p s ++ (pair_kinds AS u t ++ fixed KEEP ∷ z)) ++ body_of (map stmt_kinds w)))) (assertion_same i keep)
-      ∙ ap (λ z. fixed FIND ∷ kind.Name n ∷ fixed COMMA ∷ kind.Name x ∷ fixed FOR ∷ (operand_kinds k ++ (over_kinds p s u t (resolved_assertion i keep) ++ body_of z))) (body_same body)
-      ∙ sym (kinds-Find n x k p s u t (resolved_assertion i keep) r)
+      ap (λ z. (pair_kinds FIND n x ++ fixed FOR ∷ (operand_kinds k ++ (list_kinds p s ++ (pair_kinds AS u t ++ fixed KEEP ∷ z)))) ++ body_of body)
+      (assertion_same (with_names v (sequences (u ∷ t ∷ []))) keep)
   layer (StmtKind-F.Walk n x p s u t keep body) =
-      let i : Visible = with_names v (sequences (u ∷ t ∷ [])) in
-      let w : List Stmt = map (worded_stmt v) (trees body) in
-      let r : List Stmt = map (resolved_stmt v) (trees body) in
-      kinds-Walk n x p s u t (worded_assertion i keep) w
-      ∙ ap (λ z. fixed WALK ∷ kind.Name n ∷ fixed COMMA ∷ kind.Name x ∷ ((list_kinds p s ++ (pair_kinds AS u t ++ fixed KEEP ∷ z)) ++ body_of (map stmt_kinds w))) (assertion_same i keep)
-      ∙ ap (λ z. fixed WALK ∷ kind.Name n ∷ fixed COMMA ∷ kind.Name x ∷ (over_kinds p s u t (resolved_assertion i keep) ++ body_of z)) (body_same body)
-      ∙ sym (kinds-Walk n x p s u t (resolved_assertion i keep) r)
+      ap (λ z. (pair_kinds WALK n x ++ (list_kinds p s ++ (pair_kinds AS u t ++ fixed KEEP ∷ z))) ++ body_of body)
+      (assertion_same (with_names v (sequences (u ∷ t ∷ []))) keep)
 
-  stmt_same : (s : Stmt) → StmtSame s
-  stmt_same =
-      ind-Stmt KindSame StmtSame
-      (λ x y is.
-      subst (λ k. stmt_kind_kinds k ≡ stmt_kind_kinds (resolved_kind v (roll-StmtKind x))) (sym (fold-roll-StmtKind StmtKind Stmt (worded_step v) (worded_stmt_step v) x))
-      (subst (λ k. stmt_kind_kinds (worded_step v (map-StmtKind _ _ _ _ (worded_kind v) (worded_stmt v) x)) ≡ stmt_kind_kinds k)
-      (sym (fold-roll-StmtKind StmtKind Stmt (resolved_step v) (resolved_stmt_step v) x))
-      (subst (λ z. stmt_kind_kinds (worded_step v (map-StmtKind _ _ _ _ (worded_kind v) (worded_stmt v) z)) ≡ stmt_kind_kinds (resolved_step v (map-StmtKind _ _ _ _ (resolved_kind v) (resolved_stmt v) z))) is (layer y))))
-      (λ x y is.
-      ap stmt_kinds (fold-roll-Stmt StmtKind Stmt (worded_step v) (worded_stmt_step v) x)
-      ∙ stmt_kinds-of (record { at = x.at; kind = worded_kind v x.kind }) (stmt_kind_kinds (worded_kind v x.kind)) refl
-      ∙ subst (λ z. KindSame z.kind) is y.kind.1
-      ∙ sym (stmt_kinds-of (record { at = x.at; kind = resolved_kind v x.kind }) (stmt_kind_kinds (resolved_kind v x.kind)) refl)
-      ∙ sym (ap stmt_kinds (fold-roll-Stmt StmtKind Stmt (resolved_step v) (resolved_stmt_step v) x)))
+  stmt_same : (s : Stmt) → stmt_kinds (worded_stmt v s) ≡ stmt_kinds (resolved_stmt v s)
+  stmt_same s =
+      fold_changed worded_arg v kind_step stmt_step s
+      ∙ ap (λ step. fold-Stmt (List Kind) (List Kind) step stmt_step s) (fun_ext layer)
+      ∙ sym (fold_changed resolved_arg v kind_step stmt_step s)
 
   stmts_same : (ss : List Stmt) → map stmt_kinds (map (worded_stmt v) ss) ≡ map stmt_kinds (map (resolved_stmt v) ss)
   stmts_same [] = refl
@@ -242,7 +192,7 @@ predicate_same d p =
 
 function_same : (d : Decls) (f : Function) → function_kinds (worded_function d f) ≡ function_kinds (resolved_function d f)
 function_same d f =
-    ap (λ z. head_kinds f ++ (locals_kinds f.locals ++ body_of z)) (stmts_same (function_visible d (signature_named d f.signature) f) f.body)
+    ap (λ z. head_kinds f ++ (locals_kinds f.locals ++ body_of z)) (stmts_same (function_visible d (signature_named d f.signature.bytes) f) f.body)
 
 pub module_same : (d : Decls) (m : Module) → module_kinds (worded_with d m) ≡ module_kinds (resolved_with d m)
 module_same d m =

@@ -24,14 +24,15 @@ use Rattle.bed_lang.specs.declared.statement.Stmt.{Stmt, fold-Stmt}
 use Rattle.bed_lang.specs.declared.statement.StmtKind.{StmtKind, StmtKind-F, Call, If, While, Hint as HintStmt, Find, Walk}
 use Rattle.bed_lang.specs.declared.condition.Decls.{Decls}
 use Rattle.bed_lang.specs.Declarations.{declarations}
-use Rattle.bed_names.specs.Declarations.{signature_named, predicate_named, sequences}
+use Rattle.bed_lang.specs.Lookups.{signature_named, predicate_named}
+use Rattle.bed_names.specs.Names.{sequences}
 use Rattle.bed_names.specs.Terms.{Visible, with_names, is_hole, asked_by, first_sort, behind_first}
 use Rattle.bed_names.specs.Modules.{plain, without_labels, signature_names, function_visible}
 use Rattle.bed_names.specs.Resolved.{bare_sort, bare_variable, variable_arg, resolved_arg, resolved_args, resolved_applied, resolved_atom, resolved_term, resolved_assertion, resolved_hint, resolved_join, resolved_keep, resolved_step, resolved_stmt_step, resolved_stmt, resolved_signature, resolved_predicate, resolved_function, resolved_with, resolved}
 use Rattle.bed_print.proofs.Worded.{bracketed, worded_arg, worded_args, worded_applied, worded_atom, worded_term, worded_assertion, worded_hint, worded_join, worded_keep, worded_stmt, worded_signature, worded_predicate, worded_function, worded_with, worded}
 use Rattle.bed_print.proofs.WordedScopes.{SameDeclarations, SameSignatures, without_labels_same, asked_same, asked_length, worded_length, declarations_worded}
 use Rattle.bed_print.proofs.WordedFaults.{under}
-use Rattle.bed_print.proofs.WordedStatements.{worded_layer, fold_worded}
+use Rattle.bed_names.proofs.ArgumentLaws.{changed_layer, fold_changed}
 
 -- items that become the same
 each_item : {T X : Type 0} (f g : T → X) (change : T → T) → ((t : T) → f (change t) ≡ g t) → (ts : List T) → map f (map change ts) ≡ map g ts
@@ -47,8 +48,8 @@ module _ (d : Decls) (v : Visible) (same : SameDeclarations d v.decls) where
 
   applied_under : (x : Name) (as' : List Arg) → resolved_applied (under d v) x as' ≡ resolved_applied v x as'
   applied_under x as' =
-      ap (λ ps. resolved_args (under d v) ps as') (asked_same (predicate_named d x) (predicate_named v.decls x) as' (same.predicate x))
-      ∙ args_under (asked_by (predicate_named v.decls x) as') as'
+      ap (λ ps. resolved_args (under d v) ps as') (asked_same (predicate_named d x.bytes) (predicate_named v.decls x.bytes) as' (same.predicate x))
+      ∙ args_under (asked_by (predicate_named v.decls x.bytes) as') as'
 
   atom_under : (a : Atom) → resolved_atom (under d v) a ≡ resolved_atom v a
   atom_under (atom.Pred x as') = ap (atom.Pred x) (applied_under x as')
@@ -141,7 +142,7 @@ module _ (v : Visible) where
 
   applied_worded : (x : Name) (as' : List Arg) → resolved_applied v x (worded_applied v x as') ≡ resolved_applied v x as'
   applied_worded x as' =
-      let o : Option Predicate = predicate_named v.decls x in
+      let o : Option Predicate = predicate_named v.decls x.bytes in
       let bs : List Arg = worded_args v (asked_by o as') as' in
       ap (λ ps. resolved_args v ps bs) (asked_length o bs as' (worded_length v (asked_by o as') as'))
       ∙ args_worded (asked_by o as') as'
@@ -185,7 +186,7 @@ module _ (v : Visible) where
   keep_worded : (u t : Name) (a : Assertion) → resolved_keep v u t (worded_keep v u t a) ≡ resolved_keep v u t a
   keep_worded u t a = assertion_worded (with_names v (sequences (u ∷ t ∷ []))) a
 
-  step_worded : (x : StmtKind-F StmtKind Stmt) → resolved_step v (worded_layer v x) ≡ resolved_step v x
+  step_worded : (x : StmtKind-F StmtKind Stmt) → resolved_step v (changed_layer worded_arg v x) ≡ resolved_step v x
   step_worded (StmtKind-F.Assign x a) = refl
   step_worded (StmtKind-F.Compute x op a b) = refl
   step_worded (StmtKind-F.Load x p) = refl
@@ -205,7 +206,7 @@ module _ (v : Visible) where
 
   stmt_worded : (s : Stmt) → resolved_stmt v (worded_stmt v s) ≡ resolved_stmt v s
   stmt_worded s =
-      fold_worded v (resolved_step v) (resolved_stmt_step v) s
+      fold_changed worded_arg v (resolved_step v) (resolved_stmt_step v) s
       ∙ ap (λ step. fold-Stmt StmtKind Stmt step (resolved_stmt_step v) s) (fun_ext step_worded)
 
 -- ---- items and modules
@@ -242,9 +243,9 @@ module _ (d e : Decls) (same : SameDeclarations d e) where
 
   function_same : (f : Function) → resolved_function d (worded_function e f) ≡ resolved_function e f
   function_same f =
-      let v : Visible = function_visible e (signature_named e f.signature) f in
+      let v : Visible = function_visible e (signature_named e f.signature.bytes) f in
       ap (λ w. record f { body = map (resolved_stmt w) (map (worded_stmt v) f.body) })
-      (visible_same (signature_named d f.signature) (signature_named e f.signature) f (same.signature f.signature))
+      (visible_same (signature_named d f.signature.bytes) (signature_named e f.signature.bytes) f (same.signature f.signature))
       ∙ ap (λ body. record f { body = body })
       (each_item (resolved_stmt (under d v)) (resolved_stmt v) (worded_stmt v)
       (λ s. stmt_under d v same (worded_stmt v s) ∙ stmt_worded v s) f.body)

@@ -1,6 +1,6 @@
 -- What names stand for in a worded module: its declarations have other assertions inside, and the same names, parameters,
 -- logical variables, reserved words and numbers of cases.
-use Rattle.std.proofs.Common.{◌≡◌, ℕ, suc, ◌==◌, nat_lt, Bool, true, false, not, ◌||◌, if◌then◌else◌, List, [], ◌∷◌, ◌++◌, map, length, bytes_eq, Option, None, Some, is_none, refl, ap, ◌∙◌}
+use Rattle.std.proofs.Common.{◌≡◌, ℕ, suc, ◌==◌, nat_lt, Bool, true, false, not, ◌||◌, if◌then◌else◌, List, [], ◌∷◌, ◌++◌, map, length, bytes_eq, find, Option, None, Some, is_none, refl, ap, ◌∙◌}
 use Rattle.std.proofs.lemmas.List.{length-map}
 use Rattle.bed_lang.specs.declared.word.Name.{Name}
 use Rattle.bed_lang.specs.declared.logic.Arg.{Arg}
@@ -12,9 +12,10 @@ use Rattle.bed_lang.specs.declared.module.Module.{Module}
 use Rattle.bed_lang.specs.declared.condition.Decls.{Decls}
 use Rattle.bed_lang.specs.Prelude.{prelude}
 use Rattle.bed_lang.specs.Declarations.{labels_of, declarations}
-use Rattle.bed_names.specs.Declarations.{found, named_signatures, named_predicates, signature_named, predicate_named, label_named}
+use Rattle.bed_lang.specs.Lookups.{first_signature, signature_named, predicate_named, label_signature}
 use Rattle.bed_names.specs.Terms.{Visible, asked_by, behind_first, has_other_number, has_no_case}
 use Rattle.bed_names.specs.Modules.{plain, without_labels}
+use Rattle.bed_names.proofs.ArgumentLaws.{kept_by}
 use Rattle.bed_print.proofs.Worded.{worded_signature, worded_predicate, worded_function, worded_assertion, worded_args, worded_with}
 
 -- predicates with the same parameters and as many cases, or none
@@ -33,9 +34,9 @@ SameSignatures (Some s) (Some t) = (s.params ≡ t.params) × (s.logical ≡ t.l
 
 -- declarations under which names stand for the same, assertions aside
 pub record SameDeclarations (d e : Decls) : Type 0 where
-  pub signature : (x : Name) → SameSignatures (signature_named d x) (signature_named e x)
-  pub predicate : (x : Name) → SamePredicates (predicate_named d x) (predicate_named e x)
-  pub label : (x : Name) → label_named d x ≡ label_named e x
+  pub signature : (x : Name) → SameSignatures (signature_named d x.bytes) (signature_named e x.bytes)
+  pub predicate : (x : Name) → SamePredicates (predicate_named d x.bytes) (predicate_named e x.bytes)
+  pub label : (x : Name) → label_signature d x.bytes ≡ label_signature e x.bytes
 
 pub without_labels_same : (d e : Decls) → SameDeclarations d e → SameDeclarations (without_labels d) (without_labels e)
 without_labels_same d e same = record { signature = same.signature; predicate = same.predicate; label = λ x. refl }
@@ -99,39 +100,36 @@ by_predicate : (b : Bool) (p q : Predicate) (o r : Option Predicate) → SamePre
 by_predicate true p q o r h more = h
 by_predicate false p q o r h more = more
 
+abbrev first_predicate : List Predicate → List ℕ → Option Predicate
+first_predicate items name = find (λ p. bytes_eq p.name.bytes name) items
+
 signature_found : (d : Decls) (items : List Signature) (name : List ℕ)
-    → SameSignatures (found (named_signatures (map (worded_signature d) items)) name) (found (named_signatures items) name)
+    → SameSignatures (first_signature (map (worded_signature d) items) name) (first_signature items name)
 signature_found d [] name = tt
 signature_found d (s ∷ more) name =
-    by_signature (bytes_eq name s.name.bytes) (worded_signature d s) s
-    (found (named_signatures (map (worded_signature d) more)) name) (found (named_signatures more) name)
+    by_signature (bytes_eq s.name.bytes name) (worded_signature d s) s
+    (first_signature (map (worded_signature d) more) name) (first_signature more name)
     (refl, refl, refl) (signature_found d more name)
 
 predicate_found : (d : Decls) (items : List Predicate) (name : List ℕ)
-    → SamePredicates (found (named_predicates (map (worded_predicate d) items)) name) (found (named_predicates items) name)
+    → SamePredicates (first_predicate (map (worded_predicate d) items) name) (first_predicate items name)
 predicate_found d [] name = tt
 predicate_found d (p ∷ more) name =
-    by_predicate (bytes_eq name p.name.bytes) (worded_predicate d p) p
-    (found (named_predicates (map (worded_predicate d) more)) name) (found (named_predicates more) name)
+    by_predicate (bytes_eq p.name.bytes name) (worded_predicate d p) p
+    (first_predicate (map (worded_predicate d) more) name) (first_predicate more name)
     (refl, length-map p.cases (worded_assertion (plain d p.params false))) (predicate_found d more name)
 
 -- the predicates in front of those of the module stay as they are
 predicate_found_behind : (d : Decls) (front items : List Predicate) (name : List ℕ)
-    → SamePredicates (found (named_predicates (front ++ map (worded_predicate d) items)) name) (found (named_predicates (front ++ items)) name)
+    → SamePredicates (first_predicate (front ++ map (worded_predicate d) items) name) (first_predicate (front ++ items) name)
 predicate_found_behind d [] items name = predicate_found d items name
 predicate_found_behind d (p ∷ front) items name =
-    by_predicate (bytes_eq name p.name.bytes) p p
-    (found (named_predicates (front ++ map (worded_predicate d) items)) name) (found (named_predicates (front ++ items)) name)
+    by_predicate (bytes_eq p.name.bytes name) p p
+    (first_predicate (front ++ map (worded_predicate d) items) name) (first_predicate (front ++ items) name)
     (refl, refl) (predicate_found_behind d front items name)
 
 abbrev label_of : Function → Name × Name
 label_of f = (f.name, f.signature)
-
--- what an item says of itself stays where its assertions are worded
-pub kept_by : {T X : Type 0} (read : T → X) (change : T → T) → ((t : T) → read (change t) ≡ read t) → (items : List T)
-    → map read (map change items) ≡ map read items
-kept_by read change each [] = refl
-kept_by read change each (t ∷ more) = ap (λ x. x ∷ map read (map change more)) (each t) ∙ ap (λ xs. read t ∷ xs) (kept_by read change each more)
 
 pub labels_worded : (d : Decls) (m : Module) → labels_of (worded_with d m) ≡ labels_of m
 labels_worded d m = ap (λ ls. map (λ i. (i.name, i.signature)) m.imports ++ ls) (kept_by label_of (worded_function d) (λ f. refl) m.functions)
@@ -140,5 +138,5 @@ pub declarations_worded : (d : Decls) (m : Module) → SameDeclarations (declara
 declarations_worded d m = record {
   signature = λ x. signature_found d m.signatures x.bytes;
   predicate = λ x. predicate_found_behind d prelude m.predicates x.bytes;
-  label = λ x. ap (λ ls. label_named (record (declarations m) { labels = ls }) x) (labels_worded d m);
+  label = λ x. ap (λ ls. label_signature (record (declarations m) { labels = ls }) x.bytes) (labels_worded d m);
 }

@@ -1,7 +1,7 @@
 //! Statements.
-ghost use Rattle.std.specs.Prelude.{◌≡◌, ◌≤◌, ◌++◌, ◌∷◌, OnOk};
-ghost use Rattle.bed_print.specs.Kinds.{assign_kinds, compute_kinds, load_kinds, load_byte_kinds, store_kinds, store_byte_kinds, fixed, operand_kinds, test_kinds, pair_kinds, via_kinds, target_kinds, call_kinds, list_kinds, over_kinds, join_kinds, body_kinds, stmt_kind_kinds};
-ghost use Rattle.bed_read.specs.Classes.{FIND, FOR};
+ghost use Rattle.std.specs.Prelude.{◌≡◌, ◌≤◌, ◌++◌, ◌∷◌, [], OnOk};
+ghost use Rattle.bed_print.specs.Kinds.{assign_kinds, compute_kinds, load_kinds, load_byte_kinds, store_kinds, store_byte_kinds, fixed, operand_kinds, test_kinds, pair_kinds, via_kinds, target_kinds, call_kinds, list_kinds, over_kinds, join_kinds, hint_kinds, assertion_kinds, find_kinds, walk_kinds, body_kinds, else_kinds, stmt_kind_kinds};
+ghost use Rattle.bed_read.specs.Classes.{ASSIGN, HINT, IF, INVARIANT, RETURN, SEMICOLON, WHILE};
 
 use crate::class::{
     AFTER, AS, ASSIGN, BYTE, CALL, COMMA, ELSE, FIND, FOR, HINT, IF, IN, INVARIANT, JOIN, KEEP,
@@ -158,6 +158,41 @@ fn push_call(
     after.print(alloc, out)
 }
 
+/// Appends a call with the local that takes its result.
+fn push_called(
+    alloc: Global,
+    into: &Name,
+    target: &Operand,
+    via: &Option<Name>,
+    args: &List<Operand>,
+    hints: &List<Hint>,
+    after: &Assertion,
+    out: &mut List<Kind>,
+) -> Result<(), AllocError>
+    ensures { OnOk result (out.new ≡ out.old ++ Kind.Name into.now ∷ fixed ASSIGN ∷ (call_kinds target.now via.now args.now hints.now after.now ++ fixed SEMICOLON ∷ [])) }
+{
+    push_name(alloc, into, out)?;
+    push_fixed(ASSIGN, out)?;
+    push_call(alloc, target, via, args, hints, after, out)?;
+    push_fixed(SEMICOLON, out)
+}
+
+fn push_return(alloc: Global, value: &Operand, out: &mut List<Kind>) -> Result<(), AllocError>
+    ensures { OnOk result (out.new ≡ out.old ++ fixed RETURN ∷ (operand_kinds value.now ++ fixed SEMICOLON ∷ [])) }
+{
+    push_fixed(RETURN, out)?;
+    push_operand(alloc, value, out)?;
+    push_fixed(SEMICOLON, out)
+}
+
+fn push_hint(alloc: Global, hint: &Hint, out: &mut List<Kind>) -> Result<(), AllocError>
+    ensures { OnOk result (out.new ≡ out.old ++ fixed HINT ∷ (hint_kinds hint.now ++ fixed SEMICOLON ∷ [])) }
+{
+    push_fixed(HINT, out)?;
+    hint.print(alloc, out)?;
+    push_fixed(SEMICOLON, out)
+}
+
 /// Appends the join of an `if`, where it has one.
 fn push_join(alloc: Global, join: &Option<Join>, out: &mut List<Kind>) -> Result<(), AllocError>
     ensures { OnOk result (out.new ≡ out.old ++ join_kinds join.now) }
@@ -217,33 +252,66 @@ fn push_over(
     keep.print(alloc, out)
 }
 
-/// Appends what a `find` begins with.
+/// Appends a `find` without its body.
 fn push_find(
     alloc: Global,
     node: &Name,
     value: &Name,
     key: &Operand,
+    list: &Name,
+    seq: &Seq,
+    seen: &Name,
+    rest: &Name,
+    keep: &Assertion,
     out: &mut List<Kind>,
 ) -> Result<(), AllocError>
-    ensures { OnOk result (out.new ≡ out.old ++ pair_kinds FIND node.now value.now ++ fixed FOR ∷ operand_kinds key.now) }
+    ensures { OnOk result (out.new ≡ out.old ++ find_kinds node.now value.now key.now list.now seq.now seen.now rest.now keep.now) }
 {
     push_pair(alloc, FIND, node, value, out)?;
     push_fixed(FOR, out)?;
-    push_operand(alloc, key, out)
+    push_operand(alloc, key, out)?;
+    push_over(alloc, list, seq, seen, rest, keep, out)
 }
 
-/// Appends the test of an `if`, or of a `while` before its invariant.
-fn push_tested(
+/// Appends a `walk` without its body.
+fn push_walk(
     alloc: Global,
-    class: u8,
-    test: &Test,
+    node: &Name,
+    value: &Name,
+    list: &Name,
+    seq: &Seq,
+    seen: &Name,
+    rest: &Name,
+    keep: &Assertion,
     out: &mut List<Kind>,
 ) -> Result<(), AllocError>
-    requires { 3 ≤ class }
-    ensures { OnOk result (out.new ≡ out.old ++ fixed class ∷ test_kinds test.now) }
+    ensures { OnOk result (out.new ≡ out.old ++ walk_kinds node.now value.now list.now seq.now seen.now rest.now keep.now) }
 {
-    push_fixed(class, out)?;
+    push_pair(alloc, WALK, node, value, out)?;
+    push_over(alloc, list, seq, seen, rest, keep, out)
+}
+
+/// Appends the test of an `if`.
+fn push_tested(alloc: Global, test: &Test, out: &mut List<Kind>) -> Result<(), AllocError>
+    ensures { OnOk result (out.new ≡ out.old ++ fixed IF ∷ test_kinds test.now) }
+{
+    push_fixed(IF, out)?;
     push_test(alloc, test, out)
+}
+
+/// Appends a `while` without its body.
+fn push_while(
+    alloc: Global,
+    test: &Test,
+    invariant: &Assertion,
+    out: &mut List<Kind>,
+) -> Result<(), AllocError>
+    ensures { OnOk result (out.new ≡ out.old ++ fixed WHILE ∷ (test_kinds test.now ++ fixed INVARIANT ∷ assertion_kinds invariant.now)) }
+{
+    push_fixed(WHILE, out)?;
+    push_test(alloc, test, out)?;
+    push_fixed(INVARIANT, out)?;
+    invariant.print(alloc, out)
 }
 
 /// Appends the statements of a body, in braces.
@@ -260,6 +328,20 @@ pub(crate) fn push_body(
         push_kind(alloc, &stmt.kind, out)?;
     }
     push_fixed(RIGHT_BRACE, out)
+}
+
+/// Appends the second body of an `if`, unless it is empty.
+#[cycle(statements)]
+fn push_else(alloc: Global, body: &[Stmt], out: &mut List<Kind>) -> Result<(), AllocError>
+    ensures { OnOk result (out.new ≡ out.old ++ else_kinds body.now) }
+{
+    match body {
+        [] => Ok(()),
+        [_, ..] => {
+            push_fixed(ELSE, out)?;
+            push_body(alloc, body, out)
+        }
+    }
 }
 
 /// Appends a statement.
@@ -284,24 +366,16 @@ fn push_kind(alloc: Global, kind: &StmtKind, out: &mut List<Kind>) -> Result<(),
             args,
             hints,
             after,
-        } => {
-            push_name(alloc, into, out)?;
-            push_fixed(ASSIGN, out)?;
-            push_call(alloc, target, via, args, hints, after, out)?;
-            push_fixed(SEMICOLON, out)
-        }
+        } => push_called(alloc, into, target, via, args, hints, after, out),
         StmtKind::If {
             test,
             yes,
             no,
             join,
         } => {
-            push_tested(alloc, IF, test, out)?;
+            push_tested(alloc, test, out)?;
             push_body(alloc, yes.as_slice(), out)?;
-            if !no.is_empty() {
-                push_fixed(ELSE, out)?;
-                push_body(alloc, no.as_slice(), out)?;
-            }
+            push_else(alloc, no.as_slice(), out)?;
             push_join(alloc, join, out)
         }
         StmtKind::While {
@@ -310,21 +384,11 @@ fn push_kind(alloc: Global, kind: &StmtKind, out: &mut List<Kind>) -> Result<(),
             invariant,
             body,
         } => {
-            push_tested(alloc, WHILE, test, out)?;
-            push_fixed(INVARIANT, out)?;
-            invariant.print(alloc, out)?;
+            push_while(alloc, test, invariant, out)?;
             push_body(alloc, body.as_slice(), out)
         }
-        StmtKind::Return(value) => {
-            push_fixed(RETURN, out)?;
-            push_operand(alloc, value, out)?;
-            push_fixed(SEMICOLON, out)
-        }
-        StmtKind::Hint(hint) => {
-            push_fixed(HINT, out)?;
-            hint.print(alloc, out)?;
-            push_fixed(SEMICOLON, out)
-        }
+        StmtKind::Return(value) => push_return(alloc, value, out),
+        StmtKind::Hint(hint) => push_hint(alloc, hint, out),
         StmtKind::Find {
             node,
             value,
@@ -336,8 +400,7 @@ fn push_kind(alloc: Global, kind: &StmtKind, out: &mut List<Kind>) -> Result<(),
             keep,
             body,
         } => {
-            push_find(alloc, node, value, key, out)?;
-            push_over(alloc, list, seq, seen, rest, keep, out)?;
+            push_find(alloc, node, value, key, list, seq, seen, rest, keep, out)?;
             push_body(alloc, body.as_slice(), out)
         }
         StmtKind::Walk {
@@ -350,8 +413,7 @@ fn push_kind(alloc: Global, kind: &StmtKind, out: &mut List<Kind>) -> Result<(),
             keep,
             body,
         } => {
-            push_pair(alloc, WALK, node, value, out)?;
-            push_over(alloc, list, seq, seen, rest, keep, out)?;
+            push_walk(alloc, node, value, list, seq, seen, rest, keep, out)?;
             push_body(alloc, body.as_slice(), out)
         }
     }

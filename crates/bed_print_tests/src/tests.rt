@@ -2,7 +2,6 @@ use bed_names::scope;
 use bed_print::print_module;
 use bed_read::read_module;
 use std::alloc::{AllocError, Global};
-use std::process::Abort;
 use std::test::Fail;
 
 /// Texts, and what is printed of their modules.
@@ -53,70 +52,83 @@ const SCOPED: [(&str, &str); 3] = [
     ),
 ];
 
-/// What is printed of the module of a text, after the bytes `before`.
-fn printed(
-    rt: &impl Abort,
-    alloc: Global,
-    before: &[u8],
-    text: &[u8],
-) -> Result<Vec<u8>, AllocError> {
-    assert!(rt; text.len() < 2_000_000);
-    let mut out = Vec::new(alloc);
-    out.extend_from_slice(before)?;
-    match read_module(alloc, text) {
-        Ok(module) => print_module(alloc, &module, &mut out)?,
-        Err(_) => out.extend_from_slice(b"refused")?,
+/// What is printed of the module of a text, after the bytes `before`; nothing of a text without one.
+fn printed(alloc: Global, before: &[u8], text: &[u8]) -> Result<Vec<u8>, AllocError> {
+    let mut out = Vec::from_slice(alloc, before)?;
+    if text.len() < 2_000_000 {
+        if let Ok(module) = read_module(alloc, text) {
+            print_module(alloc, &module, &mut out)?;
+        }
     }
     Ok(out)
+}
+
+/// What is printed of what scoping makes of the module of a text.
+fn scoped(alloc: Global, text: &[u8]) -> Result<Vec<u8>, AllocError> {
+    let mut out = Vec::new(alloc);
+    if text.len() < 2_000_000 {
+        if let Ok(module) = read_module(alloc, text) {
+            if let Ok(scoped) = scope(alloc, module) {
+                print_module(alloc, scoped.module(), &mut out)?;
+            }
+        }
+    }
+    Ok(out)
+}
+
+fn is_printed(alloc: Global, text: &[u8], expected: &[u8]) -> Result<bool, AllocError> {
+    let out = printed(alloc, b"", text)?;
+    Ok(out.as_slice() == expected)
+}
+
+fn is_scoped(alloc: Global, text: &[u8], expected: &[u8]) -> Result<bool, AllocError> {
+    let out = scoped(alloc, text)?;
+    Ok(out.as_slice() == expected)
+}
+
+/// Whether each text is printed as it is expected, and so is what is printed.
+fn texts_are_printed(alloc: Global) -> Result<bool, AllocError> {
+    for (text, expected) in &TEXTS {
+        if !is_printed(alloc, text.as_bytes(), expected.as_bytes())? {
+            return Ok(false);
+        }
+        if !is_printed(alloc, expected.as_bytes(), expected.as_bytes())? {
+            return Ok(false);
+        }
+    }
+    Ok(true)
 }
 
 #[test]
 fn modules_are_printed_as_texts_that_read_back(rt: HostRuntime) -> Result<(), Fail> {
-    for (text, expected) in &TEXTS {
-        let out = printed(&rt, rt.alloc(), b"", text.as_bytes())?;
-        assert!(rt; out.as_slice() == expected.as_bytes(), "{text}");
-        let again = printed(&rt, rt.alloc(), b"", out.as_slice())?;
-        assert!(rt; again.as_slice() == expected.as_bytes(), "{text}");
-    }
+    let holds = texts_are_printed(rt.alloc())?;
+    assert!(rt; holds);
     Ok(())
 }
 
-/// What is printed of what scoping makes of the module of a text.
-fn scoped(rt: &impl Abort, alloc: Global, text: &[u8]) -> Result<Vec<u8>, AllocError> {
-    assert!(rt; text.len() < 2_000_000);
-    let mut out = Vec::new(alloc);
-    match read_module(alloc, text) {
-        Ok(module) => match scope(alloc, module) {
-            Ok(scoped) => print_module(alloc, scoped.module(), &mut out)?,
-            Err(_) => out.extend_from_slice(b"refused by a rule of names")?,
-        },
-        Err(_) => out.extend_from_slice(b"refused")?,
+/// Whether each text is scoped and printed as it is expected, and so is what is printed.
+fn texts_are_scoped(alloc: Global) -> Result<bool, AllocError> {
+    for (text, expected) in &SCOPED {
+        if !is_scoped(alloc, text.as_bytes(), expected.as_bytes())? {
+            return Ok(false);
+        }
+        if !is_scoped(alloc, expected.as_bytes(), expected.as_bytes())? {
+            return Ok(false);
+        }
     }
-    Ok(out)
+    Ok(true)
 }
 
 #[test]
 fn scoped_modules_are_printed_as_texts_that_scope_back(rt: HostRuntime) -> Result<(), Fail> {
-    for (text, expected) in &SCOPED {
-        let out = scoped(&rt, rt.alloc(), text.as_bytes())?;
-        assert!(rt; out.as_slice() == expected.as_bytes(), "{text}");
-        let again = scoped(&rt, rt.alloc(), out.as_slice())?;
-        assert!(rt; again.as_slice() == expected.as_bytes(), "{text}");
-    }
-    Ok(())
-}
-
-#[test]
-fn a_text_is_appended(rt: HostRuntime) -> Result<(), Fail> {
-    let out = printed(&rt, rt.alloc(), b"// before\n", b"module m ;")?;
-    assert!(rt; out.as_slice() == b"// before\nmodule m;\n".as_slice());
+    let holds = texts_are_scoped(rt.alloc())?;
+    assert!(rt; holds);
     Ok(())
 }
 
 /// A module with this sum of so many ones more in a fact.
 fn sum(alloc: Global, first: &[u8], more: u32) -> Result<Vec<u8>, AllocError> {
-    let mut text = Vec::new(alloc);
-    text.extend_from_slice(b"module m;\nsignature S() reserving 0 pre [")?;
+    let mut text = Vec::from_slice(alloc, b"module m;\nsignature S() reserving 0 pre [")?;
     text.extend_from_slice(first)?;
     for _ in 0..more {
         text.extend_from_slice(b" + 1")?;
@@ -125,17 +137,28 @@ fn sum(alloc: Global, first: &[u8], more: u32) -> Result<Vec<u8>, AllocError> {
     Ok(text)
 }
 
+/// Whether a sum of so many ones more is printed as another one.
+fn is_sum(
+    alloc: Global,
+    first: &[u8],
+    more: u32,
+    out: &[u8],
+    ones: u32,
+) -> Result<bool, AllocError> {
+    let text = sum(alloc, first, more)?;
+    let expected = sum(alloc, out, ones)?;
+    is_printed(alloc, text.as_slice(), expected.as_slice())
+}
+
 #[test]
-fn a_sum_of_many_parts_has_brackets(rt: HostRuntime) -> Result<(), Fail> {
-    let whole = sum(rt.alloc(), b"1", 255)?;
-    let out = printed(&rt, rt.alloc(), b"", whole.as_slice())?;
-    assert!(rt; out.as_slice() == whole.as_slice());
-    let text = sum(rt.alloc(), b"(1 + 1 + 1)", 255)?;
-    let out = printed(&rt, rt.alloc(), b"", text.as_slice())?;
-    assert!(rt; out.as_slice() == text.as_slice());
-    let text = sum(rt.alloc(), b"(1 + 1 + 1)", 254)?;
-    let expected = sum(rt.alloc(), b"(1 + 1)", 255)?;
-    let out = printed(&rt, rt.alloc(), b"", text.as_slice())?;
-    assert!(rt; out.as_slice() == expected.as_slice());
+fn a_sum_of_many_parts_has_brackets_and_a_text_is_appended(rt: HostRuntime) -> Result<(), Fail> {
+    let alloc = rt.alloc();
+    let flat = is_sum(alloc, b"1", 255, b"1", 255)?;
+    let bracketed = is_sum(alloc, b"(1 + 1 + 1)", 255, b"(1 + 1 + 1)", 255)?;
+    let fewer = is_sum(alloc, b"(1 + 1 + 1)", 254, b"(1 + 1)", 255)?;
+    let out = printed(alloc, b"// before\n", b"module m ;")?;
+    let is_appended = out.as_slice() == b"// before\nmodule m;\n".as_slice();
+    let holds = flat && bracketed && fewer && is_appended;
+    assert!(rt; holds);
     Ok(())
 }

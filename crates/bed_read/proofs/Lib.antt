@@ -1,7 +1,7 @@
-pub mod Certificate
-pub mod Counts
-pub mod Equivalence
-pub mod Lists
-pub mod Shorter
+mod Certificate
+mod Counts
+mod Equivalence
+mod Lists
+mod Shorter
 pub mod TextLaws
-pub mod Wholes
+mod Wholes

@@ -1,22 +1,24 @@
--- A text is that of one module at most, and of none where it is refused; and it has one refusal.
-use Rattle.std.proofs.Common.{◌≡◌, ℕ, length, List, [], ◌∷◌, ◌++◌, Option, Some, None, Err, refl, sym, ◌∙◌, ap, ap₂, subst, ◌⊎◌, inl, inr}
-use Rattle.bed_grammar.specs.Exact.{FirstError, to_end}
+-- A text is that of one module at most, and of none where it is refused; it has one refusal at most, and one of the two.
+use Rattle.std.proofs.Common.{◌≡◌, ℕ, length, List, [], ◌∷◌, ◌++◌, Option, Some, None, Result, Ok, Err, refl, sym, ◌∙◌, ap, ap₂, subst, ◌⊎◌, inl, inr}
+use Rattle.bed_grammar.specs.Exact.{FirstError, IsExact, to_end}
 use Rattle.bed_grammar.specs.Grammar.{unmarked}
 use Rattle.bed_grammar.proofs.Languages.{reads_text}
 use Rattle.bed_grammar.proofs.Refusals.{one_first_error, refused_before}
 use Rattle.bed_lang.specs.declared.limit.Which.{Which}
+use Rattle.bed_lang.specs.declared.module.Module as modules
+use Rattle.bed_lex.specs.Tokens.{Lexed}
 use Rattle.bed_lex.specs.declared.token.Token.{Token}
 use Rattle.bed_lex.specs.declared.token.LexError.{LexError}
 use Rattle.bed_lex.specs.declared.token.LexError.TheVariants as fault
-use Rattle.bed_lex.proofs.ScanLaws.{one_scan}
+use Rattle.bed_lex.proofs.ScanLaws.{one_scan, a_scan, IsNoMemory, no_memory}
 use Rattle.bed_read.specs.Written.{Module}
 use Rattle.bed_read.specs.Tables.{read}
 use Rattle.bed_read.specs.Classes.{IsLexeme}
-use Rattle.bed_read.specs.Reading.{IsText, BeginsModule, IsFirstFault, IsBeforeFault, IsFirstWrong, ReadsModule, place, fault_error, error_at}
-use Rattle.bed_read.specs.Laws.{OneModule, IsNotRefused, OneRefusal}
+use Rattle.bed_read.specs.Reading.{IsText, BeginsModule, IsFirstFault, IsBeforeFault, IsFirstWrong, ReadsModule, place, fault_error, error_at, first_error}
+use Rattle.bed_read.specs.Laws.{OneModule, IsNotRefused, OneRefusal, HasAnswer}
 use Rattle.bed_read.specs.declared.whole.ReadError.{ReadError}
 use Rattle.bed_read.specs.declared.whole.ReadError.TheVariants as error
-use Rattle.bed_read.proofs.Wholes.{exact_module, complete}
+use Rattle.bed_read.proofs.Wholes.{exact_module, complete, faulty, refused_at, whole_begins}
 
 pub one_module : (text : List ℕ) → OneModule text
 one_module text m n (ts, lexed, is) (us, again, also) =
@@ -70,3 +72,31 @@ same_refusal text e d (inr (w, at, a, h)) (inr (z, other, b, k)) =
 
 pub one_refusal : (text : List ℕ) → OneRefusal text
 one_refusal text e d n m h k = same_refusal text e d (refusal text e n h) (refusal text d m k)
+
+-- a refusal that isn't want of memory
+abbrev IsNot : ReadError → Type 0
+IsNot e = e ≡ error.Memory → ⊥
+
+at_no_memory : (at : ℕ) (w : Option Which) → IsNot (error_at at w)
+at_no_memory at None = λ e. cc
+at_no_memory at (Some w) = λ e. cc
+
+fault_no_memory : (x : LexError) → IsNoMemory (Some x) → IsNot (fault_error x)
+fault_no_memory (fault.BadByte at) h = λ e. cc
+fault_no_memory (fault.Number at) h = λ e. cc
+fault_no_memory (fault.LongName at) h = λ e. cc
+fault_no_memory fault.Memory h = absurd h
+
+first_no_memory : (end : ℕ) (rest : List Token) (w : Option Which) (x : Option LexError) → IsNoMemory x → IsNot (first_error end rest w x)
+first_no_memory end [] w None h = at_no_memory end w
+first_no_memory end [] w (Some x) h = fault_no_memory x h
+first_no_memory end (t ∷ rest) w x h = at_no_memory t.at w
+
+-- an answer by what reading all tokens gives
+answered : (text : List ℕ) (ts : List Token) (o : Option LexError) (r : Result modules.Module (List Token × Option Which)) → Lexed 0 text ts o → IsExact IsLexeme IsText ts r → HasAnswer text
+answered text ts None (Ok m) l x = inl (m, (ts, l, x.0))
+answered text ts (Some e) (Ok m) l x = inr (fault_error e, fault_no_memory e (no_memory 0 text ts (Some e) l), faulty text ts e l (whole_begins ts m x.0))
+answered text ts o (Err (rest, w)) l u = inr (first_error (length text) rest w o, first_no_memory (length text) rest w o (no_memory 0 text ts o l), refused_at text ts rest w o l u)
+
+pub an_answer : (text : List ℕ) → HasAnswer text
+an_answer text = let (ts, o, l) = a_scan text in answered text ts o (to_end (read Module ts)) l (exact_module ts)

@@ -40,7 +40,7 @@ pub exact_module : (s : List Token) → IsExact IsLexeme IsText s (to_end (read 
 exact_module s = exact_restated IsLexeme (Derives factored (ref Module)) IsText (in_written Module) (in_factored Module) s _ (whole_exact factored tables certified Module s)
 
 -- tokens that are a module begin one
-whole_begins : (ts : List Token) (m : modules.Module) → IsText (unmarked ts) m → BeginsModule ts
+pub whole_begins : (ts : List Token) (m : modules.Module) → IsText (unmarked ts) m → BeginsModule ts
 whole_begins ts m d = ([], All-nil IsLexeme, (m, subst (λ p. IsText p m) (sym (append-nil (unmarked ts))) d))
 
 -- tokens that end too early begin a module
@@ -50,7 +50,7 @@ early_begins ts u =
     (u.completion, u.lexemes, (u.value, subst (λ z. IsText (unmarked z ++ u.completion) u.value) e u.viable))
 
 -- a fault after tokens that begin a module
-faulty : (text : List ℕ) (ts : List Token) (e : LexError) → Lexed 0 text ts (Some e) → BeginsModule ts → ReadsModule text (Err (fault_error e))
+pub faulty : (text : List ℕ) (ts : List Token) (e : LexError) → Lexed 0 text ts (Some e) → BeginsModule ts → ReadsModule text (Err (fault_error e))
 faulty text ts (fault.BadByte at) l b = (ts, l, b)
 faulty text ts (fault.Number at) l b = (ts, l, b)
 faulty text ts (fault.LongName at) l b = inl (refl, (ts, l, b))
@@ -68,7 +68,7 @@ whole_faulty text ts us e x m r l f g h k =
     let d = subst (IsExact IsLexeme IsText us) h (exact_module us) in
     subst (λ z. ReadsModule text (Err z)) (sym k) (faulty text us x (subst (λ z. Lexed 0 text z (Some x)) (sym f) (subst (λ z. Lexed 0 text ts z) g l)) (whole_begins us m d.0))
 
-refused_at : (text : List ℕ) (ts rest : List Token) (w : Option Which) (e : Option LexError) → Lexed 0 text ts e → FirstError IsLexeme IsText ts rest w → ReadsModule text (Err (first_error (length text) rest w e))
+pub refused_at : (text : List ℕ) (ts rest : List Token) (w : Option Which) (e : Option LexError) → Lexed 0 text ts e → FirstError IsLexeme IsText ts rest w → ReadsModule text (Err (first_error (length text) rest w e))
 refused_at text ts [] None None l u = (ts, None, [], l, tt, refl, u)
 refused_at text ts [] None (Some e) l u = faulty text ts e l (early_begins ts u)
 refused_at text ts [] (Some w) e l u = absurd u.at_token

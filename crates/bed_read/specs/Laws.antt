@@ -1,5 +1,5 @@
 -- What holds of every text.
-use Rattle.std.specs.Prelude.{◌≡◌, ◌≢◌, ℕ, List, Err}
+use Rattle.std.specs.Prelude.{◌≡◌, ◌≢◌, ℕ, List, Err, ◌⊎◌}
 use Rattle.bed_lang.specs.declared.module.Module as modules
 use Rattle.bed_read.specs.declared.whole.ReadError.{ReadError}
 use Rattle.bed_read.specs.declared.whole.ReadError.TheVariants.{Memory}
@@ -16,3 +16,7 @@ IsNotRefused text = (m : modules.Module) (e : ReadError) → IsModule text m →
 -- a text has one refusal at most
 abbrev pub OneRefusal : List ℕ → Type 0
 OneRefusal text = (e d : ReadError) → e ≢ Memory → d ≢ Memory → ReadsModule text (Err e) → ReadsModule text (Err d) → e ≡ d
+
+-- a text is that of a module, or has a refusal that isn't want of memory
+abbrev pub HasAnswer : List ℕ → Type 0
+HasAnswer text = ((m : modules.Module) × IsModule text m) ⊎ ((e : ReadError) × (e ≢ Memory) × ReadsModule text (Err e))

@@ -2,7 +2,8 @@
 use Rattle.std.specs.Prelude.{ℕ, nat_lt, Bool, true, false, List, [], ◌∷◌}
 use Rattle.bed_grammar.specs.Exact.{Outcome}
 use Rattle.bed_grammar.specs.Tables.{Tables}
-use Rattle.bed_grammar.specs.Parsing.{parse}
+use Rattle.bed_grammar.specs.Grammar.{Rhs, Value}
+use Rattle.bed_grammar.specs.Parsing.{parse, read_rhs}
 use Rattle.bed_lex.specs.declared.token.Token.{Token}
 use Rattle.bed_lang.specs.declared.limit.Which.{Which}
 use Rattle.bed_read.specs.Classes.{MODULE, SIGNATURE, RESERVING, FOR, PREDICATE, IMPORT, EXPORT, FUNCTION, LOCALS, EXISTS, EMP, BLOCK, CODE, IN, NOTIN, NIL, CONS, APP, OLD, RESULT, WORD, SEQ, IF, ELSE, JOIN, WHILE, CALL, USING, RETURN, BYTE, AND, OR, XOR, FIND, WALK, HINT, UNFOLD, AT, FOLD, APPEND, DIVIDE, MERGE, BYTES, CELL, UNCELL, DROP, CLAIM, WHEN, GIVE, COMMA, LEFT_PAREN, LEFT_BRACE, LEFT_BRACKET, BAR, ARROW, BYTE_ARROW, LESS, AT_MOST, EQUAL, UNEQUAL, PLUS, MINUS, STAR, AMPERSAND, HOLE}
@@ -276,3 +277,7 @@ tables = record { is_terminal = λ c. nat_lt c 85; nullables = nullables; firsts
 -- how a nonterminal is read
 abbrev pub read : (n : N) → List Token → Outcome Token Which (Tree n)
 read n s = parse factored tables n s
+
+-- how a part of a production is read
+abbrev pub read_part : (g : Rhs N Which) → List Token → Outcome Token Which (Value Token Tree g)
+read_part g s = read_rhs factored tables read g s

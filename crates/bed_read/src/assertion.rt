@@ -2,9 +2,12 @@
 ghost use Rattle.std.specs.Prelude.{◌≡◌, ◌∷◌, IfOk, None};
 ghost use Rattle.bed_grammar.specs.Parsing.{outcome_map};
 ghost use Rattle.bed_grammar.specs.Gives.{Gives, GivesBy};
-ghost use Rattle.bed_read.specs.Trees.{cell_at};
+ghost use Rattle.bed_read.specs.Trees.{cell_at, summed};
+ghost use Rattle.bed_grammar.specs.Grammar.{ref};
+ghost use Rattle.bed_read.specs.Classes as classes;
 ghost use Rattle.bed_read.specs.Written as grammar;
-ghost use Rattle.bed_read.specs.Tables.{read};
+ghost use Rattle.bed_read.specs.Written.{◌▸◌};
+ghost use Rattle.bed_read.specs.Tables.{read, read_part};
 
 use crate::class::{
     ARROW, BLOCK, BYTE_ARROW, COMMA, DOT, EMP, EXISTS, LEFT_BRACKET, LEFT_PAREN, NAME,
@@ -17,9 +20,20 @@ use crate::parts::Piece;
 use crate::sequence::args;
 use crate::token::{Read, looks_at, take};
 use crate::word::{into_word, start, sum_from, word};
-use bed_lang::{Assertion, Atom, List, Term, Which, Word};
+use bed_lang::{Arg, Assertion, Atom, List, Term, Which, Word};
 use bed_lex::Token;
 use std::alloc::Global;
+
+/// `,`, a word and `)`.
+#[tactic(auto, using(bed_grammar::proofs::Reading::gives_split))]
+fn last_word(alloc: Global, tokens: &[Token], depth: u32) -> Read<'_, Word>
+    ensures { GivesBy (λ v. v.1.0) (λ x. (x.0, x.1.now)) result (read_part (grammar.sign classes.COMMA ▸ ref (grammar.Word depth) ▸ grammar.sign classes.RIGHT_PAREN) tokens.now) }
+{
+    let (_, rest) = take(tokens, COMMA, None)?;
+    let (word, rest) = word(alloc, rest, depth)?;
+    let (_, rest) = take(rest, RIGHT_PAREN, None)?;
+    Ok((word, rest))
+}
 
 /// `block(word, word)`, with its place.
 #[tactic(auto, using(crate::proofs::Certificate::by_rule))]
@@ -30,9 +44,7 @@ fn block(alloc: Global, tokens: &[Token], limit: Option<Which>) -> Read<'_, (u32
     let (first, rest) = take(tokens, BLOCK, limit)?;
     let (_, rest) = take(rest, LEFT_PAREN, None)?;
     let (address, rest) = word(alloc, rest, 63)?;
-    let (_, rest) = take(rest, COMMA, None)?;
-    let (length, rest) = word(alloc, rest, 63)?;
-    let (_, rest) = take(rest, RIGHT_PAREN, None)?;
+    let (length, rest) = last_word(alloc, rest, 63)?;
     Ok(((first.at, Term::Atom(Atom::Block(address, length))), rest))
 }
 
@@ -80,6 +92,25 @@ fn pure_term(alloc: Global, tokens: &[Token], limit: Option<Which>) -> Read<'_, 
     Ok(((first.at, Term::Pure(fact)), rest))
 }
 
+/// Arguments in brackets.
+fn bracketed_args(alloc: Global, tokens: &[Token]) -> Read<'_, List<Arg>>
+    ensures { GivesBy (λ v. v.1.0) (λ x. (x.0, x.1.now)) result (read_part (grammar.sign classes.LEFT_PAREN ▸ ref (grammar.Args 63) ▸ grammar.sign classes.RIGHT_PAREN) tokens.now) }
+{
+    let (_, rest) = take(tokens, LEFT_PAREN, None)?;
+    let (args, rest) = args(alloc, rest, 63)?;
+    let (_, rest) = take(rest, RIGHT_PAREN, None)?;
+    Ok((args, rest))
+}
+
+/// A cell, from the first part of its address on, with its place.
+fn cell_from(alloc: Global, first: Piece, tokens: &[Token]) -> Read<'_, (u32, Term)>
+    ensures { GivesBy (λ v. cell_at (summed first v.0) v.1) (λ x. (x.0, x.1.now)) result (read_part (ref (grammar.Sums 255 64) ▸ ref grammar.Arrow) tokens.now) }
+{
+    let (address, rest) = sum_from(alloc, first, tokens, 64)?;
+    let ((is_word, value), rest) = contents(alloc, rest)?;
+    Ok((cell(address, is_word, value), rest))
+}
+
 /// A term that begins with a name, with its place.
 #[tactic(auto, using(crate::proofs::Certificate::by_rule))]
 fn name_term(alloc: Global, tokens: &[Token], limit: Option<Which>) -> Read<'_, (u32, Term)>
@@ -88,14 +119,11 @@ fn name_term(alloc: Global, tokens: &[Token], limit: Option<Which>) -> Read<'_, 
 {
     let (name, rest) = name(alloc, tokens, limit)?;
     if looks_at(rest, LEFT_PAREN) {
-        let (_, rest) = take(rest, LEFT_PAREN, None)?;
-        let (args, rest) = args(alloc, rest, 63)?;
-        let (_, rest) = take(rest, RIGHT_PAREN, None)?;
+        let (args, rest) = bracketed_args(alloc, rest)?;
         Ok(((name.at, Term::Atom(Atom::Pred(name, args))), rest))
     } else {
-        let (address, rest) = sum_from(alloc, Piece::Name(name), rest, 64)?;
-        let ((is_word, value), rest) = contents(alloc, rest)?;
-        Ok((cell(address, is_word, value), rest))
+        let (cell, rest) = cell_from(alloc, Piece::Name(name), rest)?;
+        Ok((cell, rest))
     }
 }
 
@@ -106,9 +134,8 @@ fn start_term(alloc: Global, tokens: &[Token], limit: Option<Which>) -> Read<'_,
     ensures within { IfOk result (λ _. limit ≡ None) }
 {
     let (first, rest) = start(alloc, tokens, limit, 64)?;
-    let (address, rest) = sum_from(alloc, first, rest, 64)?;
-    let ((is_word, value), rest) = contents(alloc, rest)?;
-    Ok((cell(address, is_word, value), rest))
+    let (cell, rest) = cell_from(alloc, first, rest)?;
+    Ok((cell, rest))
 }
 
 /// A term, with its place.
@@ -158,6 +185,16 @@ fn terms_from(alloc: Global, first: Term, tokens: &[Token]) -> Read<'_, List<Ter
     more_terms(alloc, first, tokens, 255)
 }
 
+/// Terms with `*` between them, with the place of the first.
+fn terms(alloc: Global, tokens: &[Token], limit: Option<Which>) -> Read<'_, (u32, List<Term>)>
+    ensures exact { GivesBy (λ v. (v.0.0, v.0.1 ∷ v.1)) (λ x. (x.0, x.1.now)) result (read_part (ref (grammar.Term limit) ▸ ref (grammar.Terms 255)) tokens.now) }
+    ensures within { IfOk result (λ _. limit ≡ None) }
+{
+    let ((at, first), rest) = term(alloc, tokens, limit)?;
+    let (terms, rest) = terms_from(alloc, first, rest)?;
+    Ok(((at, terms), rest))
+}
+
 /// An assertion.
 #[tactic(auto, using(crate::proofs::Certificate::by_rule))]
 pub(crate) fn assertion(
@@ -173,12 +210,10 @@ pub(crate) fn assertion(
         let at = first.at;
         let (binders, rest) = binds(alloc, rest)?;
         let (_, rest) = take(rest, DOT, None)?;
-        let ((_, first), rest) = term(alloc, rest, None)?;
-        let (terms, rest) = terms_from(alloc, first, rest)?;
+        let ((_, terms), rest) = terms(alloc, rest, None)?;
         Ok((Assertion { at, binders, terms }, rest))
     } else {
-        let ((at, first), rest) = term(alloc, tokens, limit)?;
-        let (terms, rest) = terms_from(alloc, first, rest)?;
+        let ((at, terms), rest) = terms(alloc, tokens, limit)?;
         let binders = List::new(alloc);
         Ok((Assertion { at, binders, terms }, rest))
     }

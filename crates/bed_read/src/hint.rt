@@ -3,10 +3,14 @@ ghost use Rattle.std.specs.Prelude.{◌≡◌, ◌∷◌};
 ghost use Rattle.bed_grammar.specs.Exact.{peek};
 ghost use Rattle.bed_grammar.specs.Tables.{class_at, has};
 ghost use Rattle.bed_grammar.specs.Parsing.{outcome_map};
-ghost use Rattle.bed_grammar.specs.Gives.{Gives};
+ghost use Rattle.bed_grammar.specs.Gives.{Gives, GivesBy};
+ghost use Rattle.bed_grammar.specs.Grammar.{ref};
+ghost use Rattle.bed_lang.specs.declared.module.Hint.TheVariants as hints;
+ghost use Rattle.bed_read.specs.Classes as classes;
 ghost use Rattle.bed_read.specs.Classes.{class};
 ghost use Rattle.bed_read.specs.Written as grammar;
-ghost use Rattle.bed_read.specs.Tables.{firsts, read};
+ghost use Rattle.bed_read.specs.Written.{◌▸◌};
+ghost use Rattle.bed_read.specs.Tables.{firsts, read, read_part};
 
 use crate::class::{
     APPEND, AT, BYTES, CASE, CELL, CLAIM, COMMA, DIVIDE, DROP, EQUAL, FOLD, GIVE, LEFT_PAREN,
@@ -17,7 +21,7 @@ use crate::leaf::{name, number};
 use crate::sequence::{arg, hole_args};
 use crate::token::{Read, looks_at, looks_at_any, take};
 use crate::word::word;
-use bed_lang::{Hint, List, Word};
+use bed_lang::{Arg, Hint, List, Pure, Word};
 use bed_lex::Token;
 use std::alloc::Global;
 
@@ -35,8 +39,31 @@ fn at_word(alloc: Global, tokens: &[Token]) -> Read<'_, Option<Word>>
     }
 }
 
+/// `)`, `case` and a number.
+fn case_number(tokens: &[Token]) -> Read<'_, u32>
+    ensures { GivesBy (λ v. v.1.1.1) (λ x. (x.0, x.1.now)) result (read_part (grammar.sign classes.RIGHT_PAREN ▸ grammar.sign classes.CASE ▸ grammar.number) tokens.now) }
+{
+    let (_, rest) = take(tokens, RIGHT_PAREN, None)?;
+    let (_, rest) = take(rest, CASE, None)?;
+    let ((_, case), rest) = number(rest, None)?;
+    Ok((case, rest))
+}
+
+/// `fold`.
+fn fold_hint(alloc: Global, tokens: &[Token]) -> Read<'_, Hint>
+    ensures { Gives (λ x. (x.0, x.1.now)) result (outcome_map (λ v. hints.Fold v.1.0 v.1.1.1.0 v.1.1.1.1.1.1.1)
+        (read_part (grammar.sign classes.FOLD ▸ grammar.name ▸ grammar.sign classes.LEFT_PAREN ▸ ref (grammar.HoleArgs 64) ▸ grammar.sign classes.RIGHT_PAREN ▸ grammar.sign classes.CASE ▸ grammar.number) tokens.now)) }
+{
+    let (_, rest) = take(tokens, FOLD, None)?;
+    let (name, rest) = name(alloc, rest, None)?;
+    let (_, rest) = take(rest, LEFT_PAREN, None)?;
+    let (args, rest) = hole_args(alloc, rest, 64)?;
+    let (case, rest) = case_number(rest)?;
+    Ok((Hint::Fold(name, args, case), rest))
+}
+
 /// `unfold` or `fold`.
-#[tactic(auto, using(crate::proofs::Certificate::by_rule))]
+#[tactic(auto, using(crate::proofs::Certificate::by_rule, crate::proofs::Certificate::gives_by, bed_grammar::proofs::Reading::outcome_map_twice))]
 fn predicate_hint(alloc: Global, tokens: &[Token]) -> Read<'_, Hint>
     ensures { Gives (λ x. (x.0, x.1.now)) result (read grammar.PredicateHint tokens.now) }
 {
@@ -46,15 +73,17 @@ fn predicate_hint(alloc: Global, tokens: &[Token]) -> Read<'_, Hint>
         let (at, rest) = at_word(alloc, rest)?;
         Ok((Hint::Unfold(name, at), rest))
     } else {
-        let (_, rest) = take(tokens, FOLD, None)?;
-        let (name, rest) = name(alloc, rest, None)?;
-        let (_, rest) = take(rest, LEFT_PAREN, None)?;
-        let (args, rest) = hole_args(alloc, rest, 64)?;
-        let (_, rest) = take(rest, RIGHT_PAREN, None)?;
-        let (_, rest) = take(rest, CASE, None)?;
-        let ((_, case), rest) = number(rest, None)?;
-        Ok((Hint::Fold(name, args, case), rest))
+        fold_hint(alloc, tokens)
     }
+}
+
+/// A token of this class, and then a word.
+fn word_after(alloc: Global, tokens: &[Token], wanted: u32) -> Read<'_, Word>
+    ensures { GivesBy (λ v. v.1) (λ x. (x.0, x.1.now)) result (read_part (grammar.sign wanted ▸ ref (grammar.Word 64)) tokens.now) }
+{
+    let (_, rest) = take(tokens, wanted, None)?;
+    let (word, rest) = word(alloc, rest, 64)?;
+    Ok((word, rest))
 }
 
 /// `append`, `divide` or `merge`.
@@ -63,20 +92,17 @@ fn block_hint(alloc: Global, tokens: &[Token]) -> Read<'_, Hint>
     ensures { Gives (λ x. (x.0, x.1.now)) result (read grammar.BlockHint tokens.now) }
 {
     if looks_at(tokens, APPEND) {
-        let (_, rest) = take(tokens, APPEND, None)?;
-        let (word, rest) = word(alloc, rest, 64)?;
+        let (word, rest) = word_after(alloc, tokens, APPEND)?;
         Ok((Hint::Append(word), rest))
     } else if looks_at(tokens, DIVIDE) {
         let (_, rest) = take(tokens, DIVIDE, None)?;
         let (first, rest) = word(alloc, rest, 64)?;
-        let (_, rest) = take(rest, COMMA, None)?;
-        let (second, rest) = word(alloc, rest, 64)?;
+        let (second, rest) = word_after(alloc, rest, COMMA)?;
         Ok((Hint::Divide(first, second), rest))
     } else {
         let (_, rest) = take(tokens, MERGE, None)?;
         let (first, rest) = word(alloc, rest, 64)?;
-        let (_, rest) = take(rest, COMMA, None)?;
-        let (second, rest) = word(alloc, rest, 64)?;
+        let (second, rest) = word_after(alloc, rest, COMMA)?;
         Ok((Hint::Merge(first, second), rest))
     }
 }
@@ -87,26 +113,39 @@ fn cell_hint(alloc: Global, tokens: &[Token]) -> Read<'_, Hint>
     ensures { Gives (λ x. (x.0, x.1.now)) result (read grammar.CellHint tokens.now) }
 {
     if looks_at(tokens, BYTES) {
-        let (_, rest) = take(tokens, BYTES, None)?;
-        let (word, rest) = word(alloc, rest, 64)?;
+        let (word, rest) = word_after(alloc, tokens, BYTES)?;
         Ok((Hint::Bytes(word), rest))
     } else if looks_at(tokens, WORD) {
-        let (_, rest) = take(tokens, WORD, None)?;
-        let (word, rest) = word(alloc, rest, 64)?;
+        let (word, rest) = word_after(alloc, tokens, WORD)?;
         Ok((Hint::Word(word), rest))
     } else if looks_at(tokens, CELL) {
-        let (_, rest) = take(tokens, CELL, None)?;
-        let (word, rest) = word(alloc, rest, 64)?;
+        let (word, rest) = word_after(alloc, tokens, CELL)?;
         Ok((Hint::Cell(word), rest))
     } else if looks_at(tokens, UNCELL) {
-        let (_, rest) = take(tokens, UNCELL, None)?;
-        let (word, rest) = word(alloc, rest, 64)?;
+        let (word, rest) = word_after(alloc, tokens, UNCELL)?;
         Ok((Hint::Uncell(word), rest))
     } else {
-        let (_, rest) = take(tokens, DROP, None)?;
-        let (word, rest) = word(alloc, rest, 64)?;
+        let (word, rest) = word_after(alloc, tokens, DROP)?;
         Ok((Hint::Drop(word), rest))
     }
+}
+
+/// A token of this class, and then a pure fact.
+fn fact_after(alloc: Global, tokens: &[Token], wanted: u32) -> Read<'_, Pure>
+    ensures { GivesBy (λ v. v.1) (λ x. (x.0, x.1.now)) result (read_part (grammar.sign wanted ▸ ref (grammar.Pure 64)) tokens.now) }
+{
+    let (_, rest) = take(tokens, wanted, None)?;
+    let (fact, rest) = pure(alloc, rest, 64)?;
+    Ok((fact, rest))
+}
+
+/// `=` and an argument.
+fn given_arg(alloc: Global, tokens: &[Token]) -> Read<'_, Arg>
+    ensures { GivesBy (λ v. v.1) (λ x. (x.0, x.1.now)) result (read_part (grammar.sign classes.EQUAL ▸ ref (grammar.Arg 64)) tokens.now) }
+{
+    let (_, rest) = take(tokens, EQUAL, None)?;
+    let (arg, rest) = arg(alloc, rest, 64)?;
+    Ok((arg, rest))
 }
 
 /// `claim`, `when` or `give`.
@@ -115,18 +154,15 @@ fn fact_hint(alloc: Global, tokens: &[Token]) -> Read<'_, Hint>
     ensures { Gives (λ x. (x.0, x.1.now)) result (read grammar.FactHint tokens.now) }
 {
     if looks_at(tokens, CLAIM) {
-        let (_, rest) = take(tokens, CLAIM, None)?;
-        let (fact, rest) = pure(alloc, rest, 64)?;
+        let (fact, rest) = fact_after(alloc, tokens, CLAIM)?;
         Ok((Hint::Claim(fact), rest))
     } else if looks_at(tokens, WHEN) {
-        let (_, rest) = take(tokens, WHEN, None)?;
-        let (fact, rest) = pure(alloc, rest, 64)?;
+        let (fact, rest) = fact_after(alloc, tokens, WHEN)?;
         Ok((Hint::When(fact), rest))
     } else {
         let (_, rest) = take(tokens, GIVE, None)?;
         let (name, rest) = name(alloc, rest, None)?;
-        let (_, rest) = take(rest, EQUAL, None)?;
-        let (arg, rest) = arg(alloc, rest, 64)?;
+        let (arg, rest) = given_arg(alloc, rest)?;
         Ok((Hint::Give(name, arg), rest))
     }
 }

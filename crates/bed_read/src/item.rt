@@ -1,12 +1,15 @@
 //! The items of a module, and modules.
-ghost use Rattle.std.specs.Prelude.{◌≡◌, ◌∷◌};
+ghost use Rattle.std.specs.Prelude.{◌≡◌, ◌∷◌, None};
 ghost use Rattle.bed_grammar.specs.Exact.{peek};
 ghost use Rattle.bed_grammar.specs.Tables.{class_at, has};
 ghost use Rattle.bed_grammar.specs.Parsing.{outcome_map};
 ghost use Rattle.bed_grammar.specs.Gives.{Gives, GivesBy};
+ghost use Rattle.bed_grammar.specs.Grammar.{ref};
+ghost use Rattle.bed_read.specs.Classes as classes;
 ghost use Rattle.bed_read.specs.Classes.{class};
 ghost use Rattle.bed_read.specs.Written as grammar;
-ghost use Rattle.bed_read.specs.Tables.{firsts, read};
+ghost use Rattle.bed_read.specs.Written.{◌▸◌};
+ghost use Rattle.bed_read.specs.Tables.{firsts, read, read_part};
 
 use crate::assertion::assertion;
 use crate::class::{
@@ -17,7 +20,9 @@ use crate::declaration::{bind_list, for_binds, locals, name_list};
 use crate::leaf::{limit_at, name, value_of};
 use crate::statement::body;
 use crate::token::{Read, looks_at, looks_at_any, take};
-use bed_lang::{Assertion, Function, Import, List, Module, Predicate, Signature, Which};
+use bed_lang::{
+    Assertion, Bind, Function, Import, List, Module, Name, Predicate, Signature, Stmt, Which,
+};
 use bed_lex::Token;
 use std::alloc::Global;
 
@@ -40,6 +45,38 @@ fn reserving(tokens: &[Token]) -> Read<'_, u32>
     }
 }
 
+/// `post`, an assertion and `;`.
+fn post(alloc: Global, tokens: &[Token]) -> Read<'_, Assertion>
+    ensures { GivesBy (λ v. v.1.0) (λ x. (x.0, x.1.now)) result (read_part (grammar.sign classes.POST ▸ ref (grammar.Assertion None) ▸ grammar.sign classes.SEMICOLON) tokens.now) }
+{
+    let (_, rest) = take(tokens, POST, None)?;
+    let (post, rest) = assertion(alloc, rest, None)?;
+    let (_, rest) = take(rest, SEMICOLON, None)?;
+    Ok((post, rest))
+}
+
+/// `pre` and an assertion, `post` and another, and `;`.
+fn pre_and_post(alloc: Global, tokens: &[Token]) -> Read<'_, (Assertion, Assertion)>
+    ensures { GivesBy (λ v. (v.1.0, v.1.1.1.0)) (λ x. (x.0, x.1.now)) result (read_part (grammar.sign classes.PRE ▸ ref (grammar.Assertion None) ▸ grammar.sign classes.POST ▸ ref (grammar.Assertion None) ▸ grammar.sign classes.SEMICOLON) tokens.now) }
+{
+    let (_, rest) = take(tokens, PRE, None)?;
+    let (pre, rest) = assertion(alloc, rest, None)?;
+    let (post, rest) = post(alloc, rest)?;
+    Ok(((pre, post), rest))
+}
+
+/// The logical variables of a signature, and its assertions.
+fn signature_logic(
+    alloc: Global,
+    tokens: &[Token],
+) -> Read<'_, (List<Bind>, (Assertion, Assertion))>
+    ensures { GivesBy (λ v. (v.0, (v.1.1.0, v.1.1.1.1.0))) (λ x. (x.0, x.1.now)) result (read_part (ref grammar.For ▸ grammar.sign classes.PRE ▸ ref (grammar.Assertion None) ▸ grammar.sign classes.POST ▸ ref (grammar.Assertion None) ▸ grammar.sign classes.SEMICOLON) tokens.now) }
+{
+    let (logical, rest) = for_binds(alloc, tokens)?;
+    let (assertions, rest) = pre_and_post(alloc, rest)?;
+    Ok(((logical, assertions), rest))
+}
+
 /// A signature.
 #[tactic(auto, using(crate::proofs::Certificate::by_rule))]
 fn signature(alloc: Global, tokens: &[Token]) -> Read<'_, Signature>
@@ -51,12 +88,7 @@ fn signature(alloc: Global, tokens: &[Token]) -> Read<'_, Signature>
     let (params, rest) = name_list(alloc, rest)?;
     let (_, rest) = take(rest, RIGHT_PAREN, None)?;
     let (reserve, rest) = reserving(rest)?;
-    let (logical, rest) = for_binds(alloc, rest)?;
-    let (_, rest) = take(rest, PRE, None)?;
-    let (pre, rest) = assertion(alloc, rest, None)?;
-    let (_, rest) = take(rest, POST, None)?;
-    let (post, rest) = assertion(alloc, rest, None)?;
-    let (_, rest) = take(rest, SEMICOLON, None)?;
+    let ((logical, (pre, post)), rest) = signature_logic(alloc, rest)?;
     let signature = Signature {
         name,
         params,
@@ -100,6 +132,17 @@ fn cases_from(alloc: Global, first: Assertion, tokens: &[Token]) -> Read<'_, Lis
     more_cases(alloc, first, tokens, 15)
 }
 
+/// `=`, the cases of a predicate and `;`.
+fn cases(alloc: Global, tokens: &[Token]) -> Read<'_, List<Assertion>>
+    ensures { GivesBy (λ v. v.1.0 ∷ v.1.1.0) (λ x. (x.0, x.1.now)) result (read_part (grammar.sign classes.EQUAL ▸ ref (grammar.Assertion None) ▸ ref (grammar.Cases 15) ▸ grammar.sign classes.SEMICOLON) tokens.now) }
+{
+    let (_, rest) = take(tokens, EQUAL, None)?;
+    let (first, rest) = assertion(alloc, rest, None)?;
+    let (cases, rest) = cases_from(alloc, first, rest)?;
+    let (_, rest) = take(rest, SEMICOLON, None)?;
+    Ok((cases, rest))
+}
+
 /// A predicate.
 #[tactic(auto, using(crate::proofs::Certificate::by_rule))]
 fn predicate(alloc: Global, tokens: &[Token]) -> Read<'_, Predicate>
@@ -110,16 +153,23 @@ fn predicate(alloc: Global, tokens: &[Token]) -> Read<'_, Predicate>
     let (_, rest) = take(rest, LEFT_PAREN, None)?;
     let (params, rest) = bind_list(alloc, rest)?;
     let (_, rest) = take(rest, RIGHT_PAREN, None)?;
-    let (_, rest) = take(rest, EQUAL, None)?;
-    let (first, rest) = assertion(alloc, rest, None)?;
-    let (cases, rest) = cases_from(alloc, first, rest)?;
-    let (_, rest) = take(rest, SEMICOLON, None)?;
+    let (cases, rest) = cases(alloc, rest)?;
     let predicate = Predicate {
         name,
         params,
         cases,
     };
     Ok((predicate, rest))
+}
+
+/// `:`, a name and `;`.
+fn signature_name(alloc: Global, tokens: &[Token]) -> Read<'_, Name>
+    ensures { GivesBy (λ v. v.1.0) (λ x. (x.0, x.1.now)) result (read_part (grammar.sign classes.COLON ▸ grammar.name ▸ grammar.sign classes.SEMICOLON) tokens.now) }
+{
+    let (_, rest) = take(tokens, COLON, None)?;
+    let (name, rest) = name(alloc, rest, None)?;
+    let (_, rest) = take(rest, SEMICOLON, None)?;
+    Ok((name, rest))
 }
 
 /// An import.
@@ -129,9 +179,7 @@ fn import(alloc: Global, tokens: &[Token]) -> Read<'_, Import>
 {
     let (_, rest) = take(tokens, IMPORT, None)?;
     let (imported, rest) = name(alloc, rest, None)?;
-    let (_, rest) = take(rest, COLON, None)?;
-    let (signature, rest) = name(alloc, rest, None)?;
-    let (_, rest) = take(rest, SEMICOLON, None)?;
+    let (signature, rest) = signature_name(alloc, rest)?;
     let import = Import {
         name: imported,
         signature,
@@ -152,6 +200,15 @@ fn export(tokens: &[Token]) -> Read<'_, bool>
     }
 }
 
+/// The locals of a function and its body, with the place of its closing brace.
+fn locals_and_body(alloc: Global, tokens: &[Token]) -> Read<'_, (List<Name>, (List<Stmt>, u32))>
+    ensures { GivesBy (λ v. v) (λ x. (x.0, x.1.now)) result (read_part (ref grammar.Locals ▸ ref (grammar.Body 64)) tokens.now) }
+{
+    let (locals, rest) = locals(alloc, tokens)?;
+    let (body, rest) = body(alloc, rest, 64)?;
+    Ok(((locals, body), rest))
+}
+
 /// A function.
 #[tactic(auto, using(crate::proofs::Certificate::by_rule))]
 fn function(alloc: Global, tokens: &[Token]) -> Read<'_, Function>
@@ -162,8 +219,7 @@ fn function(alloc: Global, tokens: &[Token]) -> Read<'_, Function>
     let (declared, rest) = name(alloc, rest, None)?;
     let (_, rest) = take(rest, COLON, None)?;
     let (signature, rest) = name(alloc, rest, None)?;
-    let (locals, rest) = locals(alloc, rest)?;
-    let ((body, end), rest) = body(alloc, rest, 64)?;
+    let ((locals, (body, end)), rest) = locals_and_body(alloc, rest)?;
     let function = Function {
         name: declared,
         exported,
@@ -242,6 +298,30 @@ fn functions(alloc: Global, tokens: &[Token]) -> Read<'_, List<Function>>
     Ok((out, rest))
 }
 
+/// Imports, and then functions.
+fn imports_and_functions(
+    alloc: Global,
+    tokens: &[Token],
+) -> Read<'_, (List<Import>, List<Function>)>
+    ensures { GivesBy (λ v. v) (λ x. (x.0, x.1.now)) result (read_part (ref grammar.Imports ▸ ref grammar.Functions) tokens.now) }
+{
+    let (imports, rest) = imports(alloc, tokens)?;
+    let (functions, rest) = functions(alloc, rest)?;
+    Ok(((imports, functions), rest))
+}
+
+/// Predicates, then imports, and then functions.
+fn predicates_and_code(
+    alloc: Global,
+    tokens: &[Token],
+) -> Read<'_, (List<Predicate>, (List<Import>, List<Function>))>
+    ensures { GivesBy (λ v. v) (λ x. (x.0, x.1.now)) result (read_part (ref grammar.Predicates ▸ ref grammar.Imports ▸ ref grammar.Functions) tokens.now) }
+{
+    let (predicates, rest) = predicates(alloc, tokens)?;
+    let (code, rest) = imports_and_functions(alloc, rest)?;
+    Ok(((predicates, code), rest))
+}
+
 /// A module.
 #[tactic(auto, using(crate::proofs::Certificate::by_rule))]
 pub(crate) fn module(alloc: Global, tokens: &[Token]) -> Read<'_, Module>
@@ -251,9 +331,7 @@ pub(crate) fn module(alloc: Global, tokens: &[Token]) -> Read<'_, Module>
     let (name, rest) = name(alloc, rest, None)?;
     let (_, rest) = take(rest, SEMICOLON, None)?;
     let (signatures, rest) = signatures(alloc, rest)?;
-    let (predicates, rest) = predicates(alloc, rest)?;
-    let (imports, rest) = imports(alloc, rest)?;
-    let (functions, rest) = functions(alloc, rest)?;
+    let ((predicates, (imports, functions)), rest) = predicates_and_code(alloc, rest)?;
     let module = Module {
         name,
         signatures,

@@ -1,13 +1,18 @@
 //! Sequences and arguments.
-ghost use Rattle.std.specs.Prelude.{◌≡◌, ◌∷◌, IfOk};
+ghost use Rattle.std.specs.Prelude.{◌≡◌, ◌∷◌, ◌-◌, IfOk};
 ghost use Rattle.bed_grammar.specs.Exact.{peek};
 ghost use Rattle.bed_grammar.specs.Tables.{class_at, has};
 ghost use Rattle.bed_grammar.specs.Parsing.{outcome_map};
-ghost use Rattle.bed_grammar.specs.Gives.{Gives};
+ghost use Rattle.bed_grammar.specs.Grammar.{ref, token};
+ghost use Rattle.bed_grammar.specs.Gives.{Gives, GivesBy};
+ghost use Rattle.bed_lang.specs.declared.limit.Which.TheVariants as limit;
+ghost use Rattle.bed_lang.specs.declared.word.Seq as sequence;
+ghost use Rattle.bed_read.specs.Classes as classes;
 ghost use Rattle.bed_read.specs.Classes.{class};
 ghost use Rattle.bed_read.specs.Trees.{word_argument, hole};
 ghost use Rattle.bed_read.specs.Written as grammar;
-ghost use Rattle.bed_read.specs.Tables.{firsts, read};
+ghost use Rattle.bed_read.specs.Written.{◌▸◌, past};
+ghost use Rattle.bed_read.specs.Tables.{firsts, read, read_part};
 
 use crate::class::{
     AMPERSAND, APP, COMMA, CONS, HOLE, LARGE_NUMBER, LEFT_PAREN, NAME, NIL, NUMBER, OLD, RESULT,
@@ -17,7 +22,7 @@ use crate::leaf::{limit_at, name};
 use crate::parts::Piece;
 use crate::token::{Read, looks_at, looks_at_any, take};
 use crate::word::{sum, word};
-use bed_lang::{Arg, Box, List, Name, Seq, Var, Which};
+use bed_lang::{Arg, Box, List, Name, Seq, Var, Which, Word};
 use bed_lex::Token;
 use std::alloc::{AllocError, Global};
 
@@ -36,9 +41,63 @@ pub(crate) fn seq(alloc: Global, tokens: &[Token], depth: u32) -> Read<'_, Seq>
     }
 }
 
+/// A word, in a box.
+fn boxed_word(alloc: Global, tokens: &[Token], depth: u32) -> Read<'_, Box<Word>>
+    ensures { Gives (λ x. (x.0, x.1.now)) result (read (grammar.Word depth) tokens.now) }
+{
+    let (word, rest) = word(alloc, tokens, depth)?;
+    Ok((Box::new(alloc, word)?, rest))
+}
+
+/// A sequence, in a box.
+#[cycle(sequences)]
+fn boxed_seq(alloc: Global, tokens: &[Token], depth: u32) -> Read<'_, Box<Seq>>
+    ensures { Gives (λ x. (x.0, x.1.now)) result (read (grammar.Seq depth) tokens.now) }
+{
+    let (seq, rest) = seq(alloc, tokens, depth)?;
+    Ok((Box::new(alloc, seq)?, rest))
+}
+
+/// `,`, a sequence and `)`.
+#[cycle(sequences)]
+fn last_seq(alloc: Global, tokens: &[Token], depth: u32) -> Read<'_, Box<Seq>>
+    ensures { GivesBy (λ v. v.1.0) (λ x. (x.0, x.1.now)) result (read_part (grammar.sign classes.COMMA ▸ ref (grammar.Seq depth) ▸ grammar.sign classes.RIGHT_PAREN) tokens.now) }
+{
+    let (_, rest) = take(tokens, COMMA, None)?;
+    let (seq, rest) = boxed_seq(alloc, rest, depth)?;
+    let (_, rest) = take(rest, RIGHT_PAREN, None)?;
+    Ok((seq, rest))
+}
+
+/// `cons(word, seq)`, with its place.
+#[cycle(sequences)]
+fn cons(alloc: Global, tokens: &[Token], depth: u32) -> Read<'_, (u32, Seq)>
+    ensures { Gives (λ x. (x.0, x.1.now)) result (outcome_map (λ v. (v.0.at, sequence.Cons v.1.1.0 v.1.1.1.1.0))
+        (read_part (grammar.sign classes.CONS ▸ token classes.LEFT_PAREN (past limit.Nesting depth) ▸ ref (grammar.Word (depth - 1)) ▸ grammar.sign classes.COMMA ▸ ref (grammar.Seq (depth - 1)) ▸ grammar.sign classes.RIGHT_PAREN) tokens.now)) }
+{
+    let (first, rest) = take(tokens, CONS, None)?;
+    let (_, rest) = take(rest, LEFT_PAREN, limit_at(Which::Nesting, depth))?;
+    let (head, rest) = boxed_word(alloc, rest, depth - 1)?;
+    let (tail, rest) = last_seq(alloc, rest, depth - 1)?;
+    Ok(((first.at, Seq::Cons(head, tail)), rest))
+}
+
+/// `app(seq, seq)`, with its place.
+#[cycle(sequences)]
+fn app(alloc: Global, tokens: &[Token], depth: u32) -> Read<'_, (u32, Seq)>
+    ensures { Gives (λ x. (x.0, x.1.now)) result (outcome_map (λ v. (v.0.at, sequence.App v.1.1.0 v.1.1.1.1.0))
+        (read_part (grammar.sign classes.APP ▸ token classes.LEFT_PAREN (past limit.Nesting depth) ▸ ref (grammar.Seq (depth - 1)) ▸ grammar.sign classes.COMMA ▸ ref (grammar.Seq (depth - 1)) ▸ grammar.sign classes.RIGHT_PAREN) tokens.now)) }
+{
+    let (first, rest) = take(tokens, APP, None)?;
+    let (_, rest) = take(rest, LEFT_PAREN, limit_at(Which::Nesting, depth))?;
+    let (left, rest) = boxed_seq(alloc, rest, depth - 1)?;
+    let (right, rest) = last_seq(alloc, rest, depth - 1)?;
+    Ok(((first.at, Seq::App(left, right)), rest))
+}
+
 /// A sequence that is no name, with its place.
 #[cycle(sequences)]
-#[tactic(auto, using(crate::proofs::Certificate::by_rule))]
+#[tactic(auto, using(crate::proofs::Certificate::by_rule, crate::proofs::Certificate::gives_by, bed_grammar::proofs::Reading::outcome_map_twice))]
 pub(crate) fn plain_seq(alloc: Global, tokens: &[Token], depth: u32) -> Read<'_, (u32, Seq)>
     ensures { Gives (λ x. (x.0, x.1.now)) result (read (grammar.PlainSeq depth) tokens.now) }
 {
@@ -46,23 +105,9 @@ pub(crate) fn plain_seq(alloc: Global, tokens: &[Token], depth: u32) -> Read<'_,
         let (first, rest) = take(tokens, NIL, None)?;
         Ok(((first.at, Seq::Nil), rest))
     } else if looks_at(tokens, CONS) {
-        let (first, rest) = take(tokens, CONS, None)?;
-        let (_, rest) = take(rest, LEFT_PAREN, limit_at(Which::Nesting, depth))?;
-        let (head, rest) = word(alloc, rest, depth - 1)?;
-        let (_, rest) = take(rest, COMMA, None)?;
-        let (tail, rest) = seq(alloc, rest, depth - 1)?;
-        let (_, rest) = take(rest, RIGHT_PAREN, None)?;
-        let cons = Seq::Cons(Box::new(alloc, head)?, Box::new(alloc, tail)?);
-        Ok(((first.at, cons), rest))
+        cons(alloc, tokens, depth)
     } else {
-        let (first, rest) = take(tokens, APP, None)?;
-        let (_, rest) = take(rest, LEFT_PAREN, limit_at(Which::Nesting, depth))?;
-        let (left, rest) = seq(alloc, rest, depth - 1)?;
-        let (_, rest) = take(rest, COMMA, None)?;
-        let (right, rest) = seq(alloc, rest, depth - 1)?;
-        let (_, rest) = take(rest, RIGHT_PAREN, None)?;
-        let app = Seq::App(Box::new(alloc, left)?, Box::new(alloc, right)?);
-        Ok(((first.at, app), rest))
+        app(alloc, tokens, depth)
     }
 }
 

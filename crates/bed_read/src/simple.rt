@@ -1,9 +1,12 @@
 //! Statements without bodies, and the parts of others.
-ghost use Rattle.std.specs.Prelude.{◌≡◌};
-ghost use Rattle.bed_grammar.specs.Gives.{Gives};
+ghost use Rattle.std.specs.Prelude.{◌≡◌, None};
+ghost use Rattle.bed_grammar.specs.Gives.{Gives, GivesBy};
+ghost use Rattle.bed_grammar.specs.Grammar.{ref};
+ghost use Rattle.bed_read.specs.Classes as classes;
 ghost use Rattle.bed_read.specs.Trees.{assigned};
 ghost use Rattle.bed_read.specs.Written as grammar;
-ghost use Rattle.bed_read.specs.Tables.{read};
+ghost use Rattle.bed_read.specs.Written.{◌▸◌};
+ghost use Rattle.bed_read.specs.Tables.{read, read_part};
 
 use crate::assertion::assertion;
 use crate::class::{
@@ -17,7 +20,7 @@ use crate::parts::{Over, Source};
 use crate::sequence::seq;
 use crate::source::source;
 use crate::token::{Read, looks_at, take};
-use bed_lang::{Join, Name, Stmt, StmtKind};
+use bed_lang::{Assertion, Join, Name, Operand, Stmt, StmtKind};
 use bed_lex::Token;
 use std::alloc::Global;
 
@@ -42,6 +45,16 @@ fn assign(into: Name, source: Source) -> StmtKind
     }
 }
 
+/// `<-`, a source and `;`.
+fn assigned_source(alloc: Global, tokens: &[Token]) -> Read<'_, Source>
+    ensures { GivesBy (λ v. v.1.0) (λ x. (x.0, x.1.now)) result (read_part (grammar.sign classes.ASSIGN ▸ ref grammar.Source ▸ grammar.sign classes.SEMICOLON) tokens.now) }
+{
+    let (_, rest) = take(tokens, ASSIGN, None)?;
+    let (source, rest) = source(alloc, rest)?;
+    let (_, rest) = take(rest, SEMICOLON, None)?;
+    Ok((source, rest))
+}
+
 /// An assignment to a local.
 #[tactic(auto, using(crate::proofs::Certificate::by_rule))]
 pub(crate) fn assignment(alloc: Global, tokens: &[Token]) -> Read<'_, Stmt>
@@ -49,11 +62,20 @@ pub(crate) fn assignment(alloc: Global, tokens: &[Token]) -> Read<'_, Stmt>
 {
     let (into, rest) = name(alloc, tokens, None)?;
     let at = into.at;
-    let (_, rest) = take(rest, ASSIGN, None)?;
-    let (source, rest) = source(alloc, rest)?;
-    let (_, rest) = take(rest, SEMICOLON, None)?;
+    let (source, rest) = assigned_source(alloc, rest)?;
     let kind = assign(into, source);
     Ok((Stmt { at, kind }, rest))
+}
+
+/// `]`, `<-`, an operand and `;`.
+fn stored_value(alloc: Global, tokens: &[Token]) -> Read<'_, Operand>
+    ensures { GivesBy (λ v. v.1.1.0.1) (λ x. (x.0, x.1.now)) result (read_part (grammar.sign classes.RIGHT_BRACKET ▸ grammar.sign classes.ASSIGN ▸ ref grammar.Operand ▸ grammar.sign classes.SEMICOLON) tokens.now) }
+{
+    let (_, rest) = take(tokens, RIGHT_BRACKET, None)?;
+    let (_, rest) = take(rest, ASSIGN, None)?;
+    let (value, rest) = operand(alloc, rest)?;
+    let (_, rest) = take(rest, SEMICOLON, None)?;
+    Ok((value.1, rest))
 }
 
 /// A store of a word.
@@ -64,10 +86,7 @@ pub(crate) fn store(alloc: Global, tokens: &[Token]) -> Read<'_, Stmt>
     let (first, rest) = take(tokens, LEFT_BRACKET, None)?;
     let at = first.at;
     let (place, rest) = place(alloc, rest)?;
-    let (_, rest) = take(rest, RIGHT_BRACKET, None)?;
-    let (_, rest) = take(rest, ASSIGN, None)?;
-    let ((_, value), rest) = operand(alloc, rest)?;
-    let (_, rest) = take(rest, SEMICOLON, None)?;
+    let (value, rest) = stored_value(alloc, rest)?;
     let kind = StmtKind::Store(place, value);
     Ok((Stmt { at, kind }, rest))
 }
@@ -81,10 +100,7 @@ pub(crate) fn store_byte(alloc: Global, tokens: &[Token]) -> Read<'_, Stmt>
     let at = first.at;
     let (_, rest) = take(rest, LEFT_BRACKET, None)?;
     let (place, rest) = place(alloc, rest)?;
-    let (_, rest) = take(rest, RIGHT_BRACKET, None)?;
-    let (_, rest) = take(rest, ASSIGN, None)?;
-    let ((_, value), rest) = operand(alloc, rest)?;
-    let (_, rest) = take(rest, SEMICOLON, None)?;
+    let (value, rest) = stored_value(alloc, rest)?;
     let kind = StmtKind::StoreByte(place, value);
     Ok((Stmt { at, kind }, rest))
 }
@@ -131,6 +147,27 @@ pub(crate) fn join(alloc: Global, tokens: &[Token]) -> Read<'_, Option<Join>>
     }
 }
 
+/// `keep` and an assertion, after the name of the elements from here on.
+fn rest_and_keep(alloc: Global, tokens: &[Token]) -> Read<'_, (Name, Assertion)>
+    ensures { GivesBy (λ v. (v.0, v.1.1)) (λ x. (x.0, x.1.now)) result (read_part (grammar.name ▸ grammar.sign classes.KEEP ▸ ref (grammar.Assertion None)) tokens.now) }
+{
+    let (name, rest) = name(alloc, tokens, None)?;
+    let (_, rest) = take(rest, KEEP, None)?;
+    let (keep, rest) = assertion(alloc, rest, None)?;
+    Ok(((name, keep), rest))
+}
+
+/// `as`, the names of the elements before and from here on, `keep` and an assertion.
+fn seen_and_rest(alloc: Global, tokens: &[Token]) -> Read<'_, (Name, (Name, Assertion))>
+    ensures { GivesBy (λ v. (v.1.0, (v.1.1.1.0, v.1.1.1.1.1))) (λ x. (x.0, x.1.now)) result (read_part (grammar.sign classes.AS ▸ grammar.name ▸ grammar.sign classes.COMMA ▸ grammar.name ▸ grammar.sign classes.KEEP ▸ ref (grammar.Assertion None)) tokens.now) }
+{
+    let (_, rest) = take(tokens, AS, None)?;
+    let (seen, rest) = name(alloc, rest, None)?;
+    let (_, rest) = take(rest, COMMA, None)?;
+    let (last, rest) = rest_and_keep(alloc, rest)?;
+    Ok(((seen, last), rest))
+}
+
 /// What `find` and `walk` go over, and what they keep.
 #[tactic(auto, using(crate::proofs::Certificate::by_rule))]
 pub(crate) fn over(alloc: Global, tokens: &[Token]) -> Read<'_, Over>
@@ -140,12 +177,7 @@ pub(crate) fn over(alloc: Global, tokens: &[Token]) -> Read<'_, Over>
     let (list, after) = name(alloc, after, None)?;
     let (_, after) = take(after, OF, None)?;
     let (seq, after) = seq(alloc, after, 64)?;
-    let (_, after) = take(after, AS, None)?;
-    let (seen, after) = name(alloc, after, None)?;
-    let (_, after) = take(after, COMMA, None)?;
-    let (rest, after) = name(alloc, after, None)?;
-    let (_, after) = take(after, KEEP, None)?;
-    let (keep, after) = assertion(alloc, after, None)?;
+    let ((seen, (rest, keep)), after) = seen_and_rest(alloc, after)?;
     let over = Over {
         list,
         seq,

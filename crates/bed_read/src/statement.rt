@@ -1,11 +1,14 @@
 //! Statements and bodies.
-ghost use Rattle.std.specs.Prelude.{◌≡◌};
+ghost use Rattle.std.specs.Prelude.{◌≡◌, None};
 ghost use Rattle.bed_grammar.specs.Exact.{peek};
 ghost use Rattle.bed_grammar.specs.Tables.{class_at, has};
-ghost use Rattle.bed_grammar.specs.Gives.{Gives};
+ghost use Rattle.bed_grammar.specs.Gives.{Gives, GivesBy};
+ghost use Rattle.bed_grammar.specs.Grammar.{ref};
+ghost use Rattle.bed_read.specs.Classes as classes;
 ghost use Rattle.bed_read.specs.Classes.{class};
 ghost use Rattle.bed_read.specs.Written as grammar;
-ghost use Rattle.bed_read.specs.Tables.{firsts, read};
+ghost use Rattle.bed_read.specs.Written.{◌▸◌};
+ghost use Rattle.bed_read.specs.Tables.{firsts, read, read_part};
 
 use crate::assertion::assertion;
 use crate::class::{
@@ -14,9 +17,10 @@ use crate::class::{
 };
 use crate::leaf::{limit_at, name};
 use crate::operand::{operand, test};
+use crate::parts::Over;
 use crate::simple::{assignment, hint_statement, join, over, return_statement, store, store_byte};
 use crate::token::{Read, looks_at, looks_at_any, take};
-use bed_lang::{List, Stmt, StmtKind, Which};
+use bed_lang::{Assertion, Join, List, Name, Operand, Stmt, StmtKind, Which};
 use bed_lex::Token;
 use std::alloc::Global;
 
@@ -110,6 +114,20 @@ fn else_body(alloc: Global, tokens: &[Token], depth: u32) -> Read<'_, List<Stmt>
     }
 }
 
+/// `else` and a body, or nothing, and then a join, or nothing.
+#[cycle(statements)]
+fn else_and_join(
+    alloc: Global,
+    tokens: &[Token],
+    depth: u32,
+) -> Read<'_, (List<Stmt>, Option<Join>)>
+    ensures { GivesBy (λ v. v) (λ x. (x.0, x.1.now)) result (read_part (ref (grammar.Else depth) ▸ ref grammar.Join) tokens.now) }
+{
+    let (no, rest) = else_body(alloc, tokens, depth)?;
+    let (join, rest) = join(alloc, rest)?;
+    Ok(((no, join), rest))
+}
+
 /// An `if`.
 #[cycle(statements)]
 #[tactic(auto, using(crate::proofs::Certificate::by_rule))]
@@ -120,8 +138,7 @@ fn if_statement(alloc: Global, tokens: &[Token], depth: u32) -> Read<'_, Stmt>
     let at = first.at;
     let (test, rest) = test(alloc, rest)?;
     let ((yes, _), rest) = body(alloc, rest, depth)?;
-    let (no, rest) = else_body(alloc, rest, depth)?;
-    let (join, rest) = join(alloc, rest)?;
+    let ((no, join), rest) = else_and_join(alloc, rest, depth)?;
     let kind = StmtKind::If {
         test,
         yes,
@@ -129,6 +146,20 @@ fn if_statement(alloc: Global, tokens: &[Token], depth: u32) -> Read<'_, Stmt>
         join,
     };
     Ok((Stmt { at, kind }, rest))
+}
+
+/// An invariant and a body.
+#[cycle(statements)]
+fn invariant_and_body(
+    alloc: Global,
+    tokens: &[Token],
+    depth: u32,
+) -> Read<'_, (Assertion, List<Stmt>)>
+    ensures { GivesBy (λ v. (v.0, v.1.0)) (λ x. (x.0, x.1.now)) result (read_part (ref (grammar.Assertion None) ▸ ref (grammar.Body depth)) tokens.now) }
+{
+    let (invariant, rest) = assertion(alloc, tokens, None)?;
+    let ((body, _), rest) = body(alloc, rest, depth)?;
+    Ok(((invariant, body), rest))
 }
 
 /// A `while`.
@@ -142,8 +173,7 @@ fn while_statement(alloc: Global, tokens: &[Token], depth: u32) -> Read<'_, Stmt
     let (test, rest) = test(alloc, rest)?;
     let (second, rest) = take(rest, INVARIANT, None)?;
     let place = second.at;
-    let (invariant, rest) = assertion(alloc, rest, None)?;
-    let ((body, _), rest) = body(alloc, rest, depth)?;
+    let ((invariant, body), rest) = invariant_and_body(alloc, rest, depth)?;
     let kind = StmtKind::While {
         test,
         place,
@@ -151,6 +181,64 @@ fn while_statement(alloc: Global, tokens: &[Token], depth: u32) -> Read<'_, Stmt
         body,
     };
     Ok((Stmt { at, kind }, rest))
+}
+
+/// What `find` and `walk` go over, and their body.
+#[cycle(statements)]
+fn over_and_body(alloc: Global, tokens: &[Token], depth: u32) -> Read<'_, (Over, List<Stmt>)>
+    ensures { GivesBy (λ v. (v.0, v.1.0)) (λ x. (x.0, x.1.now)) result (read_part (ref grammar.Over ▸ ref (grammar.Body depth)) tokens.now) }
+{
+    let (over, rest) = over(alloc, tokens)?;
+    let ((body, _), rest) = body(alloc, rest, depth)?;
+    Ok(((over, body), rest))
+}
+
+/// `for` and what `find` looks for, and then as for `walk`.
+#[cycle(statements)]
+fn key_and_body(
+    alloc: Global,
+    tokens: &[Token],
+    depth: u32,
+) -> Read<'_, (Operand, (Over, List<Stmt>))>
+    ensures { GivesBy (λ v. (v.1.0.1, (v.1.1.0, v.1.1.1.0))) (λ x. (x.0, x.1.now)) result (read_part (grammar.sign classes.FOR ▸ ref grammar.Operand ▸ ref grammar.Over ▸ ref (grammar.Body depth)) tokens.now) }
+{
+    let (_, rest) = take(tokens, FOR, None)?;
+    let (key, rest) = operand(alloc, rest)?;
+    let (turn, rest) = over_and_body(alloc, rest, depth)?;
+    Ok(((key.1, turn), rest))
+}
+
+/// A `find` of these parts.
+fn find_of(node: Name, value: Name, key: Operand, over: Over, body: List<Stmt>) -> StmtKind
+    ensures { result ≡ StmtKind.Find node value key over.list over.seq over.seen over.rest over.keep body }
+{
+    StmtKind::Find {
+        node,
+        value,
+        key,
+        list: over.list,
+        seq: over.seq,
+        seen: over.seen,
+        rest: over.rest,
+        keep: over.keep,
+        body,
+    }
+}
+
+/// A `walk` of these parts.
+fn walk_of(node: Name, value: Name, over: Over, body: List<Stmt>) -> StmtKind
+    ensures { result ≡ StmtKind.Walk node value over.list over.seq over.seen over.rest over.keep body }
+{
+    StmtKind::Walk {
+        node,
+        value,
+        list: over.list,
+        seq: over.seq,
+        seen: over.seen,
+        rest: over.rest,
+        keep: over.keep,
+        body,
+    }
 }
 
 /// A `find`.
@@ -164,21 +252,8 @@ fn find_statement(alloc: Global, tokens: &[Token], depth: u32) -> Read<'_, Stmt>
     let (node, rest) = name(alloc, rest, None)?;
     let (_, rest) = take(rest, COMMA, None)?;
     let (value, rest) = name(alloc, rest, None)?;
-    let (_, rest) = take(rest, FOR, None)?;
-    let ((_, key), rest) = operand(alloc, rest)?;
-    let (over, rest) = over(alloc, rest)?;
-    let ((body, _), rest) = body(alloc, rest, depth)?;
-    let kind = StmtKind::Find {
-        node,
-        value,
-        key,
-        list: over.list,
-        seq: over.seq,
-        seen: over.seen,
-        rest: over.rest,
-        keep: over.keep,
-        body,
-    };
+    let ((key, (over, body)), rest) = key_and_body(alloc, rest, depth)?;
+    let kind = find_of(node, value, key, over, body);
     Ok((Stmt { at, kind }, rest))
 }
 
@@ -193,17 +268,7 @@ fn walk_statement(alloc: Global, tokens: &[Token], depth: u32) -> Read<'_, Stmt>
     let (node, rest) = name(alloc, rest, None)?;
     let (_, rest) = take(rest, COMMA, None)?;
     let (value, rest) = name(alloc, rest, None)?;
-    let (over, rest) = over(alloc, rest)?;
-    let ((body, _), rest) = body(alloc, rest, depth)?;
-    let kind = StmtKind::Walk {
-        node,
-        value,
-        list: over.list,
-        seq: over.seq,
-        seen: over.seen,
-        rest: over.rest,
-        keep: over.keep,
-        body,
-    };
+    let ((over, body), rest) = over_and_body(alloc, rest, depth)?;
+    let kind = walk_of(node, value, over, body);
     Ok((Stmt { at, kind }, rest))
 }

@@ -1,10 +1,16 @@
 //! Words.
-ghost use Rattle.std.specs.Prelude.{◌≡◌, IfOk, Some, None};
+ghost use Rattle.std.specs.Prelude.{◌≡◌, ◌-◌, IfOk, Some, None};
+ghost use Rattle.std.specs.Option.{option_or};
 ghost use Rattle.bed_grammar.specs.Parsing.{outcome_map};
 ghost use Rattle.bed_grammar.specs.Gives.{Gives, GivesBy};
+ghost use Rattle.bed_grammar.specs.Grammar.{ref, token};
+ghost use Rattle.bed_lang.specs.declared.limit.Which.TheVariants as which;
+ghost use Rattle.bed_read.specs.Classes as classes;
+ghost use Rattle.bed_read.specs.declared.parts.Piece.TheVariants as pieces;
 ghost use Rattle.bed_read.specs.Trees.{word_of, joined, summed};
 ghost use Rattle.bed_read.specs.Written as grammar;
-ghost use Rattle.bed_read.specs.Tables.{read};
+ghost use Rattle.bed_read.specs.Written.{◌▸◌, past};
+ghost use Rattle.bed_read.specs.Tables.{read, read_part};
 
 use crate::class::{
     AMPERSAND, LARGE_NUMBER, LEFT_PAREN, MINUS, NAME, NUMBER, OLD, PLUS, RESULT, RIGHT_PAREN, STAR,
@@ -147,9 +153,23 @@ pub(crate) fn start(
     }
 }
 
+/// A word in brackets.
+#[cycle(words)]
+fn bracketed(alloc: Global, tokens: &[Token], limit: Option<Which>, depth: u32) -> Read<'_, Piece>
+    ensures exact { Gives (λ x. (x.0, x.1.now)) result (outcome_map (λ v. pieces.Word v.0.at v.1.0)
+        (read_part (token classes.LEFT_PAREN (option_or limit (past which.Nesting depth)) ▸ ref (grammar.Inner (depth - 1)) ▸ grammar.sign classes.RIGHT_PAREN) tokens.now)) }
+    ensures within { IfOk result (λ _. limit ≡ None) }
+{
+    let limit = either_limit(limit, limit_at(Which::Nesting, depth));
+    let (first, rest) = take(tokens, LEFT_PAREN, limit)?;
+    let (word, rest) = inner(alloc, rest, depth - 1)?;
+    let (_, rest) = take(rest, RIGHT_PAREN, None)?;
+    Ok((Piece::Word(first.at, word), rest))
+}
+
 /// A part that is neither a name nor a number.
 #[cycle(words)]
-#[tactic(auto, using(crate::proofs::Certificate::by_rule))]
+#[tactic(auto, using(crate::proofs::Certificate::by_rule, crate::proofs::Certificate::gives_by, bed_grammar::proofs::Reading::outcome_map_twice))]
 fn other(alloc: Global, tokens: &[Token], limit: Option<Which>, depth: u32) -> Read<'_, Piece>
     ensures exact { Gives (λ x. (x.0, x.1.now)) result (read (grammar.Other limit depth) tokens.now) }
     ensures within { IfOk result (λ _. limit ≡ None) }
@@ -170,12 +190,18 @@ fn other(alloc: Global, tokens: &[Token], limit: Option<Which>, depth: u32) -> R
             rest,
         ))
     } else {
-        let limit = either_limit(limit, limit_at(Which::Nesting, depth));
-        let (first, rest) = take(tokens, LEFT_PAREN, limit)?;
-        let (word, rest) = inner(alloc, rest, depth - 1)?;
-        let (_, rest) = take(rest, RIGHT_PAREN, None)?;
-        Ok((Piece::Word(first.at, word), rest))
+        bracketed(alloc, tokens, limit, depth)
     }
+}
+
+/// `*` and a word, in a box.
+#[cycle(words)]
+fn factor(alloc: Global, tokens: &[Token], depth: u32) -> Read<'_, Box<Word>>
+    ensures { GivesBy (λ v. v.1) (λ x. (x.0, x.1.now)) result (read_part (grammar.sign classes.STAR ▸ ref (grammar.Word depth)) tokens.now) }
+{
+    let (_, rest) = take(tokens, STAR, None)?;
+    let (word, rest) = word(alloc, rest, depth)?;
+    Ok((Box::new(alloc, word)?, rest))
 }
 
 /// What stands in the brackets of a part.
@@ -187,9 +213,8 @@ fn inner(alloc: Global, tokens: &[Token], depth: u32) -> Read<'_, Word>
     if looks_at_any(tokens, &[NUMBER, LARGE_NUMBER]) {
         let ((at, number), rest) = number(tokens, None)?;
         if looks_at(rest, STAR) {
-            let (_, rest) = take(rest, STAR, None)?;
-            let (word, rest) = word(alloc, rest, depth)?;
-            Ok((Word::Times(number, Box::new(alloc, word)?), rest))
+            let (word, rest) = factor(alloc, rest, depth)?;
+            Ok((Word::Times(number, word), rest))
         } else {
             let first = Piece::Word(at, Word::Number(number));
             let (sum, rest) = sum_from(alloc, first, rest, depth)?;

@@ -1,5 +1,5 @@
 -- The conditions of small texts, computed.
-use Rattle.std.proofs.Common.{ℕ, ◌≡◌, Some, None, List, [], ◌∷◌, ◌++◌, map, codes, flat_map, append-nil, refl, ◌∙◌, ap}
+use Rattle.std.proofs.Common.{◌≡◌, Some, None, List, [], ◌∷◌, map, codes, flat_map, append-nil, refl, ◌∙◌, ap}
 use Rattle.bed_lang.specs.declared.module.Operand.TheVariants as operand
 use Rattle.bed_lang.specs.declared.module.Op.TheVariants as op
 use Rattle.bed_lang.specs.declared.module.Action.TheVariants as action
@@ -8,14 +8,13 @@ use Rattle.bed_lang.specs.declared.condition.Cond.{Cond}
 use Rattle.bed_lang.specs.declared.statement.Stmt.{Stmt}
 use Rattle.bed_lang.specs.declared.module.Function.{Function}
 use Rattle.bed_lang.specs.declared.module.Module.{Module}
-use Rattle.bed_lang.specs.declared.statement.StmtKind.{If, Return}
-use Rattle.bed_lang.specs.Prelude.{name, sequence}
+use Rattle.bed_lang.specs.Prelude.{name}
 use Rattle.bed_lang.specs.Lookups.{first_signature}
-use Rattle.bed_table.specs.ListLoops.{field_at, list_invariant, not_yet, is_key}
-use Rattle.bed_sat.specs.Written.{statement, made_test, list_loop, written}
+use Rattle.bed_table.specs.ListLoops.{field_at}
+use Rattle.bed_sat.specs.Written.{written}
 use Rattle.bed_sat.specs.Conditions.{Site, site_of, path_at_entry, path_from, then_action, condition, body_part, function_conditions, conditions}
-use Rattle.bed_sat.specs.ConditionExamples.{counting_signature, counting_function, counting_module, counting_begins, counting_goes_on, counting_ends, CountingExample, shape, joining_function, joining_module, JoiningExample, finding_function, finding_module, found_body, kept, FindingExample, y, is_seven, just_emp, signature, returns_seven, calling_function, calling_module, some_cell, forgetting_function, forgetting_module, loading_function, loading_module, is_above, adding_function, adding_module}
-use Rattle.bed_sat.proofs.ConditionLaws.{written-Assign, written-Compute, written-Load, written-Call, written-If, written-While, written-Return, written-Hint, written-Find, part-Assign, part-Compute, part-Load, part-Call, part-If, part-While, part-Return, part-Hint}
+use Rattle.bed_sat.specs.ConditionExamples.{counting_signature, counting_function, counting_module, counting_begins, counting_goes_on, counting_ends, CountingExample, shape, joining_function, joining_module, JoiningExample, y, is_seven, just_emp, signature, returns_seven, calling_function, calling_module, some_cell, forgetting_function, forgetting_module, loading_function, loading_module, is_above, adding_function, adding_module}
+use Rattle.bed_sat.proofs.ConditionLaws.{written-Assign, written-Compute, written-Load, written-Call, written-If, written-While, written-Return, written-Hint, part-Assign, part-Compute, part-Load, part-Call, part-If, part-While, part-Return, part-Hint}
 
 counting_written : written counting_function.body ≡ counting_function.body
 counting_written = rw (written-Assign, written-While, written-Compute, written-Return) refl
@@ -50,32 +49,6 @@ joining_parts =
 
 pub joining_example : JoiningExample
 joining_example = ap (map shape) (one_function joining_module joining_function joining_function.body refl joining_written) ∙ joining_parts
-
--- the body with its `find` written out
-finding_text : List Stmt
-finding_text =
-    list_loop 10 (name (codes "n")) (name (codes "v")) (name (codes "p"))
-    (list_invariant (name (codes "n")) (name (codes "p")) (sequence (codes "s")) (name (codes "u")) (name (codes "t"))
-    (not_yet (operand.Local (name (codes "a"))) (name (codes "u"))) kept)
-    (statement 10 (If (made_test 10 (is_key (name (codes "v")) (operand.Local (name (codes "a"))))) found_body [] None) ∷ [])
-    ++ statement 70 (Return (operand.Number 0)) ∷ []
-
-finding_written : written finding_function.body ≡ finding_text
-unfolding finding_text
-finding_written = simp (written-Find, written-Hint, written-Return) refl
-
-abbrev finding_shapes : List (ℕ × ℕ × List ℕ)
-finding_shapes = (10, 1, 0 ∷ 1 ∷ []) ∷ (60, 3, 1 ∷ 3 ∷ 3 ∷ 3 ∷ []) ∷ (10, 5, 1 ∷ 4 ∷ 4 ∷ 4 ∷ []) ∷ (70, 1, 1 ∷ 1 ∷ []) ∷ []
-
-finding_parts : map shape ((body_part (site_of finding_module finding_function) finding_text).owes (path_at_entry (first_signature finding_module.signatures (codes "S"))))
-    ≡ finding_shapes
-unfolding finding_text
-finding_parts =
-    let site : Site = site_of finding_module finding_function in
-    simp (part-If site, part-While site, part-Assign site, part-Load site, part-Hint site, part-Return site) (refl {a = finding_shapes})
-
-pub finding_example : FindingExample
-finding_example = ap (map shape) (one_function finding_module finding_function finding_text refl finding_written) ∙ finding_parts
 
 -- ---- the texts whose conditions are valid, or aren't
 

@@ -11,8 +11,8 @@ use Rattle.bed_lang.specs.declared.module.Hint.{Hint}
 use Rattle.bed_lang.specs.declared.module.Join.{Join}
 use Rattle.bed_lang.specs.declared.module.Action.TheVariants as action
 use Rattle.bed_lang.specs.declared.statement.Stmt.{Stmt, fold_out-Stmt}
-use Rattle.bed_lang.specs.declared.statement.StmtKind.{StmtKind, StmtKind-F, roll-StmtKind, map-StmtKind, fold-roll-StmtKind, Assign, Compute, Load, LoadByte, Store, StoreByte, Call, If, While, Return, Hint as HintStmt, Find}
-use Rattle.bed_lang.specs.declared.statement.StmtKind.TheVariants.{rolls-Assign, rolls-Compute, rolls-Load, rolls-LoadByte, rolls-Store, rolls-StoreByte, rolls-Call, rolls-If, rolls-While, rolls-Return, rolls-Hint, rolls-Find}
+use Rattle.bed_lang.specs.declared.statement.StmtKind.{StmtKind, StmtKind-F, roll-StmtKind, map-StmtKind, fold-roll-StmtKind, Assign, Compute, Load, LoadByte, Store, StoreByte, Call, If, While, Return, Hint as HintStmt, Find, Walk}
+use Rattle.bed_lang.specs.declared.statement.StmtKind.TheVariants.{rolls-Assign, rolls-Compute, rolls-Load, rolls-LoadByte, rolls-Store, rolls-StoreByte, rolls-Call, rolls-If, rolls-While, rolls-Return, rolls-Hint, rolls-Find, rolls-Walk}
 use Rattle.bed_table.specs.ListLoops.{list_invariant, not_yet, is_key}
 use Rattle.bed_sat.specs.Written.{statement, made_hint, made_test, list_loop, written_kind_step, written_step, written_kind, written_statement, written}
 use Rattle.bed_sat.specs.Conditions.{Site, Part, straight, then_action, then_hint, part_step, call, loop, choice, answer, kind_part_step, kind_part, statement_part, body_part}
@@ -65,6 +65,11 @@ pub written-Find : (at : ℕ) (n v : Name) (a : Operand) (p : Name) (s : Seq) (u
     → written_statement (record { at = at; kind = Find n v a p s u t keep body })
     ≡ list_loop at n v p (list_invariant n p s u t (not_yet a u) keep) (statement at (If (made_test at (is_key v a)) (written body) [] None) ∷ [])
 written-Find at n v a p s u t keep body = written_roll (StmtKind-F.Find n v a p s u t keep body) at _ (rolls-Find n v a p s u t keep body)
+
+pub written-Walk : (at : ℕ) (n v p : Name) (s : Seq) (u t : Name) (keep : Assertion) (body : List Stmt)
+    → written_statement (record { at = at; kind = Walk n v p s u t keep body })
+    ≡ list_loop at n v p (list_invariant n p s u t [] keep) (written body)
+written-Walk at n v p s u t keep body = written_roll (StmtKind-F.Walk n v p s u t keep body) at _ (rolls-Walk n v p s u t keep body)
 
 -- ---- what a path makes of a statement
 

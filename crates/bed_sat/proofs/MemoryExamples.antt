@@ -111,4 +111,4 @@ wrap_example =
     )
 
 pub no_functions_example : NoFunctionsExample
-no_functions_example p none = record { fine = λ X out f ν s F start states run. let lt = start.listed.1 in absurd (omega (arith, ap length none)) }
+no_functions_example p none = record { fine = λ X out f ν s F exported start states run. let lt = start.listed.1 in absurd (omega (arith, ap length none)) }

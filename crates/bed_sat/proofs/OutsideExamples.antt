@@ -216,13 +216,15 @@ module _ (X : Outside) (out : IsOutsideOf (calling just_emp) X) (ν : Values) (s
       values = ν;
       rest = F;
       keeps = includes_refl F;
-      frame = whole.0;
-      heap = en.heap;
-      parts = whole.2;
-      is_frame = subst (λ a. IsBlock a 2 whole.0) (sym r.ebp) (r.leaves.is_frame.0 ++ (n ∷ en.area), omega (arith, length-append r.leaves.is_frame.0 (n ∷ en.area), r.leaves.is_frame.1, en.area_count), block);
-      holds =
-          let same : words_at t.memory (wrap (t.regs.ebp + 4)) 1 ≡ n ∷ [] = ap (λ a. words_at t.memory (wrap (a + 4)) 1) r.ebp ∙ n_there in
-          subst (λ vs. Holds w (set_words ν (name (codes "n") ∷ []) vs) en.heap (n_is 5)) (sym same) en.pre;
+      meets = record {
+        frame = whole.0;
+        heap = en.heap;
+        parts = whole.2;
+        is_frame = subst (λ a. IsBlock a 2 whole.0) (sym r.ebp) (r.leaves.is_frame.0 ++ (n ∷ en.area), omega (arith, length-append r.leaves.is_frame.0 (n ∷ en.area), r.leaves.is_frame.1, en.area_count), block);
+        holds =
+            let same : words_at t.memory (wrap (t.regs.ebp + 4)) 1 ≡ n ∷ [] = ap (λ a. words_at t.memory (wrap (a + 4)) 1) r.ebp ∙ n_there in
+            subst (λ vs. Holds w (set_words ν (name (codes "n") ∷ []) vs) en.heap (n_is 5)) (sym same) en.pre;
+      };
     }
 
     fine_back : Fine (record t { eip = 0x40000A })
@@ -263,7 +265,7 @@ module _ (X : Outside) (out : IsOutsideOf (calling just_emp) X) (ν : Values) (s
 
 calling_sound : IsSound (calling just_emp)
 calling_sound = record {
-  fine = λ X out f ν s F start states run.
+  fine = λ X out f ν s F exported start states run.
       let same : taking_five ≡ f = only taking_five f start.listed in
       fine_run (calling just_emp) X f ν s F s
       (subst (λ (g : FunctionAt). IsStart (calling just_emp) X g ν s F → (k : ℕ) → FineFor (calling just_emp) X g ν s F k s) same
@@ -365,6 +367,6 @@ tail_call_example sound =
     let there : MachineState = record (five_state []) { eip = 0x500000 } in
     let run : IsRun (world_of tail_calling just_g) tail_calling.code just_g 0x1000 (five_state []) (there ∷ []) = (Steps (λ e. omega arith) (goes_step leaves), tt) in
     let start = starts bytes [] [] just_emp (omega arith) [] tt (omega arith) in
-    let fine = sound.fine just_g (is_outside bytes [] [] just_emp (omega arith)) taking_five blank (five_state []) empty start (there ∷ []) run 1 there (omega arith) in
+    let fine = sound.fine just_g (is_outside bytes [] [] just_emp (omega arith)) taking_five blank (five_state []) empty refl start (there ∷ []) run 1 there (omega arith) in
     let inside = (fine.at_outside (codes "G") (imported just_emp) refl refl).1 in
     omega (arith, inside.0)

@@ -48,7 +48,6 @@ starts : (returned : ℕ) → IsStart (returning_program 7 returned) no_outside 
 unfolding function
 starts returned = record {
   listed = (0, omega arith, refl);
-  exported = refl;
   state = record { regs = record { eax = omega arith; ecx = omega arith; edx = omega arith; ebx = omega arith; esp = omega arith; ebp = omega arith; esi = omega arith; edi = omega arith }; eip = omega arith; memory = start_memory };
   eip = refl;
   enters = record {
@@ -195,7 +194,7 @@ is_outside = record {
 pub eight_example : EightExample
 unfolding states function
 eight_example sound =
-    let fine = sound.fine no_outside is_outside function blank start_state empty (starts 8) states run 5 start_state (omega arith) in
+    let fine = sound.fine no_outside is_outside function blank start_state empty refl (starts 8) states run 5 start_state (omega arith) in
     let post = (fine.at_return refl).leaves.post.1 in
     let labels = (returning_program 7 8).labels in
     let answer = sym (value-Var labels (set_word blank Answer 8) (var.Answer 0)) ∙ post.3.1 ∙ value-Number labels (set_word blank Answer 8) 7 in

@@ -22,7 +22,7 @@ use Rattle.bed_sat.specs.Cells.{AreWordsAt}
 use Rattle.bed_sat.specs.Assertions.{World, ForSomeValues, AreTrueTerms, meaning, Holds}
 use Rattle.bed_sat.specs.Frames.{set_words, arguments, EntersAt, Returned, Meets}
 use Rattle.bed_sat.specs.Runs.{Outside}
-use Rattle.bed_sat.specs.Sound.{FunctionAt, Linked, world_of, IsOutsideOf, IsStart, IsFine, IsSound}
+use Rattle.bed_sat.specs.Sound.{FunctionAt, Linked, world_of, IsOutsideOf, IsStart, IsFine, IsSound, IsSoundFromAll}
 use Rattle.bed_sat.specs.Returns.{ReturnValue, OfNumber, OfArgument, fetch, return_code, Says, IsReturnSignature, AreReturns, IsReturnProgram}
 use Rattle.bed_machine.proofs.StepLaws.{Goes, goes_inside, goes_step}
 use Rattle.bed_sat.proofs.PartLaws.{joins_empty, to_empty, joins_left, joins_right, includes_trans, includes_refl}
@@ -405,8 +405,15 @@ module _ (p : Linked) (is : IsReturnProgram p) (X : Outside) (out : IsOutsideOf 
       fine_then p X f ν s0 F out n4 goes4 (fine_inner s4 s5 goes4 (omega arith) (omega arith) keeps_after) (λ n5 l5.
       fine_over p X f ν s0 F out n5 refl fine5)))))
 
+-- code that is sound from all its functions is so from the exported ones
+pub exported_sound : (p : Linked) → IsSoundFromAll p → IsSound p
+exported_sound p all = record { fine = λ X out f ν s F exported start. all.fine X out f ν s F tt start }
+
 -- the code of functions that only return a value is sound
-pub return_program_sound : (p : Linked) → IsReturnProgram p → IsSound p
-return_program_sound p is = record {
-  fine = λ X out f ν s F start states run. fine_run p X f ν s F s (fine_for p is X out f ν s F start) states run;
+pub return_program_sound_from_all : (p : Linked) → IsReturnProgram p → IsSoundFromAll p
+return_program_sound_from_all p is = record {
+  fine = λ X out f ν s F any start states run. fine_run p X f ν s F s (fine_for p is X out f ν s F start) states run;
 }
+
+pub return_program_sound : (p : Linked) → IsReturnProgram p → IsSound p
+return_program_sound p is = exported_sound p (return_program_sound_from_all p is)

@@ -31,7 +31,7 @@ use Rattle.bed_lang.proofs.RollLaws.{value_roll, list_roll, same_word-roll, same
 use Rattle.bed_sat.specs.Cells.{IsCell, IsByte, IsBlock}
 use Rattle.bed_sat.specs.Facts.{IsTrueFact}
 use Rattle.bed_sat.specs.Assertions.{ArgValue, WordValue, ListValue, Meaning, ForSomeValue, ForSomeValues, blank, set_params, arg_value, arg_values, IsTrueAtom, IsTrueTerm, AreTrueTerms, IsTrueWith, World, meaning, Holds}
-use Rattle.bed_sat.specs.Declarations.{Extends}
+use Rattle.bed_sat.specs.Declarations.{KeepsPredicates}
 use Rattle.bed_sat.proofs.FrameLaws.{bytes_eq_is}
 use Rattle.bed_sat.proofs.SatLaws.{Within, true_more}
 use Rattle.bed_sat.proofs.InstanceLaws.{two}
@@ -226,7 +226,7 @@ case_same (C ∷ As) (D ∷ Bs) zero A is at =
     (D, refl, subst (λ x. IsTrue (same_assertion x D)) same g.0)
 case_same (C ∷ As) (D ∷ Bs) (suc n) A is at = case_same As Bs n A (and_parts (same_assertion C D) _ is).1 at
 
-module _ (few more : Decls) (x : Extends few more) (codes : ℕ → Option (List ℕ)) (labels : List ℕ → ℕ) where
+module _ (few more : Decls) (x : KeepsPredicates few more) (codes : ℕ → Option (List ℕ)) (labels : List ℕ → ℕ) where
   abbrev one : World
   one = record { decls = few; codes = codes; labels = labels }
 

@@ -1,5 +1,5 @@
--- Signatures: their places don't matter, and what a state meets under some declarations it meets under more.
-use Rattle.std.proofs.Common.{◌≡◌, ℕ, suc, ◌+◌, Bool, true, false, IsTrue, Option, List, [], ◌∷◌, length, refl, ◌∙◌, ap, subst, arith, ◌==◌}
+-- Signatures: their places don't matter.
+use Rattle.std.proofs.Common.{◌≡◌, ℕ, suc, ◌+◌, Bool, true, false, IsTrue, List, [], ◌∷◌, length, refl, ◌∙◌, ap, subst, arith, ◌==◌}
 use Rattle.std.specs.Cmp.{unsigned_Decides}
 use Rattle.std.specs.Cmp.Lexicographic.{pointwise}
 use Rattle.std.proofs.lemmas.Bool.{and_parts}
@@ -8,26 +8,24 @@ use Rattle.bed_machine.specs.Memory.{Memory}
 use Rattle.bed_machine.specs.Machine.{MachineState}
 use Rattle.bed_lang.specs.declared.word.Name.{Name}
 use Rattle.bed_lang.specs.declared.module.Signature.{Signature}
-use Rattle.bed_lang.specs.declared.condition.Decls.{Decls}
 use Rattle.bed_lang.specs.Same.{same_name, same_bind, same_assertion, same_signature}
 use Rattle.bed_lang.specs.Values.{Values, Named, Answer, set_word}
 use Rattle.bed_sat.specs.Cells.{IsBlock}
 use Rattle.bed_sat.specs.Assertions.{World, Holds}
 use Rattle.bed_sat.specs.Frames.{words_at, set_words, frame_size, arguments_at, arguments, EntersAt, LeavesAt, Enters, Returned}
-use Rattle.bed_sat.specs.Declarations.{Extends}
 use Rattle.bed_sat.proofs.FrameLaws.{bytes_eq_is}
-use Rattle.bed_sat.proofs.SameLaws.{holds_same, holds_extends}
+use Rattle.bed_sat.proofs.SameLaws.{holds_same}
 
 no : {A : Type 0} → ◌≡◌ {A = Bool} false true → A
 no e = absurd cc
 
-names_long : (xs ys : List Name) → IsTrue (pointwise same_name xs ys) → length xs ≡ length ys
+pub names_long : (xs ys : List Name) → IsTrue (pointwise same_name xs ys) → length xs ≡ length ys
 names_long [] [] is = refl
 names_long (x ∷ xs) (y ∷ ys) is = ap suc (names_long xs ys (and_parts (same_name x y) _ is).1)
 names_long [] (y ∷ ys) is = no is
 names_long (x ∷ xs) [] is = no is
 
-names_set : (ν : Values) (xs ys : List Name) (vs : List ℕ) → IsTrue (pointwise same_name xs ys) → set_words ν xs vs ≡ set_words ν ys vs
+pub names_set : (ν : Values) (xs ys : List Name) (vs : List ℕ) → IsTrue (pointwise same_name xs ys) → set_words ν xs vs ≡ set_words ν ys vs
 names_set ν [] [] vs is = refl
 names_set ν (x ∷ xs) (y ∷ ys) [] is = refl
 names_set ν (x ∷ xs) (y ∷ ys) (v ∷ vs) is =
@@ -37,13 +35,13 @@ names_set ν [] (y ∷ ys) vs is = no is
 names_set ν (x ∷ xs) [] vs is = no is
 
 -- the parts of two signatures that are the same
-record SameParts (S T : Signature) : Type 0 where
+pub record SameParts (S T : Signature) : Type 0 where
   pub params : IsTrue (pointwise same_name S.params T.params)
   pub reserve : S.reserve ≡ T.reserve
   pub pre : IsTrue (same_assertion S.pre T.pre)
   pub post : IsTrue (same_assertion S.post T.post)
 
-parts_of : (S T : Signature) → IsTrue (same_signature S T) → SameParts S T
+pub parts_of : (S T : Signature) → IsTrue (same_signature S T) → SameParts S T
 parts_of S T is =
     let a = and_parts (same_name S.name T.name) _ is in
     let b = and_parts (pointwise same_name S.params T.params) _ a.1 in
@@ -100,33 +98,4 @@ module _ (w : World) (S T : Signature) (is : IsTrue (same_signature S T)) where
     leaves =
         subst (λ args. LeavesAt w T ν s.regs.ebp args t.regs.eax t.memory F) (arguments_same s.regs.ebp s.memory)
         (leaves_at_same ν s.regs.ebp (arguments S s) t.regs.eax t.memory F r.leaves);
-  }
-
-module _ (few more : Decls) (x : Extends few more) (codes : ℕ → Option (List ℕ)) (labels : List ℕ → ℕ) where
-  abbrev one : World
-  one = record { decls = few; codes = codes; labels = labels }
-
-  abbrev all : World
-  all = record { decls = more; codes = codes; labels = labels }
-
-  pub enters_extends : (S : Signature) (ν : Values) (sp : ℕ) (args : List ℕ) (m F : Memory) → EntersAt one S ν sp args m F → EntersAt all S ν sp args m F
-  enters_extends S ν sp args m F en = record {
-    frame = en.frame;
-    heap = en.heap;
-    parts = en.parts;
-    back = en.back;
-    area = en.area;
-    args_count = en.args_count;
-    area_count = en.area_count;
-    is_frame = en.is_frame;
-    pre = holds_extends few more x codes labels _ en.heap S.pre en.pre;
-  }
-
-  pub leaves_extends : (S : Signature) (ν : Values) (sp : ℕ) (args : List ℕ) (answer : ℕ) (m F : Memory) → LeavesAt one S ν sp args answer m F → LeavesAt all S ν sp args answer m F
-  leaves_extends S ν sp args answer m F l = record {
-    frame = l.frame;
-    heap = l.heap;
-    parts = l.parts;
-    is_frame = l.is_frame;
-    post = holds_extends few more x codes labels _ l.heap S.post l.post;
   }

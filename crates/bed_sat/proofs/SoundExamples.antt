@@ -69,7 +69,6 @@ module _ (bytes : List ℕ) (others : List FunctionAt) (loops : List LoopAt) (gi
   pub starts : (us : List ℕ) → AreBytes us → length us < 256 → IsStart (program bytes others loops given) just_g taking_five blank (five_state us) (starters us)
   starts us are short = record {
     listed = (0, omega arith, refl);
-    exported = refl;
     state = record { regs = record { eax = omega arith; ecx = omega arith; edx = omega arith; ebx = omega arith; esp = omega arith; ebp = omega arith; esi = omega arith; edi = omega arith }; eip = omega arith; memory = is_memory };
     eip = refl;
     enters = record {
@@ -139,11 +138,13 @@ module _ (X : Outside) (out : IsOutsideOf (spinning (n_is 5)) X) (ν : Values) (
     values = ν;
     rest = F;
     keeps = includes_refl F;
-    frame = en.frame;
-    heap = en.heap;
-    parts = en.parts;
-    is_frame = (en.back ∷ (arguments (taking (n_is 5)) s ++ en.area), omega (arith, en.area_count), en.is_frame);
-    holds = en.pre;
+    meets = record {
+      frame = en.frame;
+      heap = en.heap;
+      parts = en.parts;
+      is_frame = (en.back ∷ (arguments (taking (n_is 5)) s ++ en.area), omega (arith, en.area_count), en.is_frame);
+      holds = en.pre;
+    };
   }
 
   fine_here : IsFine (spinning (n_is 5)) X taking_five ν s F here
@@ -166,7 +167,7 @@ module _ (X : Outside) (out : IsOutsideOf (spinning (n_is 5)) X) (ν : Values) (
 
 spinning_sound : IsSound (spinning (n_is 5))
 spinning_sound = record {
-  fine = λ X out f ν s F start states run.
+  fine = λ X out f ν s F exported start states run.
       let same : taking_five ≡ f = only taking_five f start.listed in
       fine_run (spinning (n_is 5)) X f ν s F s
       (subst (λ (g : FunctionAt). IsStart (spinning (n_is 5)) X g ν s F → (n : ℕ) → FineFor (spinning (n_is 5)) X g ν s F n s) same
@@ -187,10 +188,10 @@ wrong_invariant_example sound =
     let p : Linked = spinning (n_is 6) in
     let out = is_outside jump_to_itself [] (loop ∷ []) just_emp (omega arith) in
     let start = starts jump_to_itself [] (loop ∷ []) just_emp (omega arith) [] tt (omega arith) in
-    let fine = sound.fine just_g out taking_five blank (five_state []) empty start [] tt 0 (five_state []) (omega arith) in
+    let fine = sound.fine just_g out taking_five blank (five_state []) empty refl start [] tt 0 (five_state []) (omega arith) in
     let at = fine.at_loop loop (0, omega arith, refl) refl in
     let μ = set_words at.values (name (codes "n") ∷ []) (5 ∷ []) in
-    let is = fact_is (world_of p just_g) μ 0 at.heap (pure.Equal (word (codes "n")) (Number 6)) at.holds in
+    let is = fact_is (world_of p just_g) μ 0 at.meets.heap (pure.Equal (word (codes "n")) (Number 6)) at.meets.holds in
     let six = sym (value-Var p.labels μ (var.Named (name (codes "n")))) ∙ is.1 ∙ value-Number p.labels μ 6 in
     omega (arith, six)
 
@@ -210,7 +211,7 @@ no_cell w ν m frame heap rest parts keeps holds =
 pub starters_cell_example : StartersCellExample
 starters_cell_example w = (
   λ met. no_cell w (set_words met.values (name (codes "n") ∷ []) (5 ∷ [])) (five_state zero_word).memory met.enters.frame met.enters.heap met.rest met.enters.parts met.keeps met.enters.pre,
-  λ at. no_cell w (set_words at.values (name (codes "n") ∷ []) (5 ∷ [])) (five_state zero_word).memory at.frame at.heap at.rest at.parts at.keeps at.holds,
+  λ at. no_cell w (set_words at.values (name (codes "n") ∷ []) (5 ∷ [])) (five_state zero_word).memory at.meets.frame at.meets.heap at.rest at.meets.parts at.keeps at.meets.holds,
 )
 
 -- ---- code that isn't sound
@@ -267,7 +268,7 @@ pub undefined_example : UndefinedExample
 undefined_example sound =
     let out = is_outside (0 ∷ []) [] [] just_emp (omega arith) in
     let start = starts (0 ∷ []) [] [] just_emp (omega arith) [] tt (omega arith) in
-    let fine = sound.fine just_g out taking_five blank (five_state []) empty start [] tt 0 (five_state []) (omega arith) in
+    let fine = sound.fine just_g out taking_five blank (five_state []) empty refl start [] tt 0 (five_state []) (omega arith) in
     elim fine.goes_on [
       | inl go ↦ no_step go.1 go.2
       | inr more ↦ elim more [ inl some ↦ none_is_some _ refl some | inr back ↦ omega (arith, back) ]
@@ -319,5 +320,5 @@ jumping_example sound =
     let out = is_outside bytes (second_function ∷ []) [] just_emp (omega arith) in
     let start = starts bytes (second_function ∷ []) [] just_emp (omega arith) [] tt (omega arith) in
     let run : IsRun (world_of jumping just_g) jumping.code just_g 0x1000 (five_state []) (there ∷ []) = (Steps (λ e. omega arith) (goes_step jumps), tt) in
-    let fine = sound.fine just_g out taking_five blank (five_state []) empty start (there ∷ []) run 1 there (omega arith) in
+    let fine = sound.fine just_g out taking_five blank (five_state []) empty refl start (there ∷ []) run 1 there (omega arith) in
     never_met (world_of jumping just_g) there empty (fine.at_function second_function (1, omega arith, refl) refl)

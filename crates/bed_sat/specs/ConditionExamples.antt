@@ -4,7 +4,6 @@ use Rattle.bed_lang.specs.declared.word.Name.{Name}
 use Rattle.bed_lang.specs.declared.word.Sort.TheVariants as sort
 use Rattle.bed_lang.specs.declared.word.Var.TheVariants as var
 use Rattle.bed_lang.specs.declared.word.Word.{Word, Number, Var as WordVar}
-use Rattle.bed_lang.specs.declared.logic.Arg.TheVariants as arg
 use Rattle.bed_lang.specs.declared.logic.Pure.TheVariants as pure
 use Rattle.bed_lang.specs.declared.logic.Atom.TheVariants as atom
 use Rattle.bed_lang.specs.declared.logic.Term.TheVariants as term
@@ -19,13 +18,12 @@ use Rattle.bed_lang.specs.declared.module.Signature.{Signature}
 use Rattle.bed_lang.specs.declared.module.Function.{Function}
 use Rattle.bed_lang.specs.declared.module.Module.{Module}
 use Rattle.bed_lang.specs.declared.statement.Stmt.{Stmt}
-use Rattle.bed_lang.specs.declared.statement.StmtKind.{Assign, Compute, Load, Call, If, While, Return, Hint as HintStmt, Find}
+use Rattle.bed_lang.specs.declared.statement.StmtKind.{Assign, Compute, Load, Call, If, While, Return, Hint as HintStmt}
 use Rattle.bed_lang.specs.declared.condition.Goal.TheVariants.{Meets, Returns}
 use Rattle.bed_lang.specs.declared.condition.Cond.{Cond}
-use Rattle.bed_lang.specs.Prelude.{name, word, sequence, bind}
+use Rattle.bed_lang.specs.Prelude.{name, word, bind}
 use Rattle.bed_table.specs.ListLoops.{field_at}
 use Rattle.bed_lang.specs.Declarations.{all_declarations}
-use Rattle.bed_sat.specs.Written.{hole}
 use Rattle.bed_sat.specs.Conditions.{conditions}
 use Rattle.bed_sat.specs.Valid.{IsValid}
 use Rattle.bed_sat.specs.Examples.{asserts}
@@ -146,7 +144,7 @@ CountingExample = conditions counting_module ≡ counting_begins ∷ counting_go
 abbrev pub CountingIsValidExample : Type 0
 CountingIsValidExample = All (IsValid (all_declarations (counting_module ∷ []))) (conditions counting_module)
 
--- ---- a body with a join and a call, and one with a list loop
+-- ---- a body with a join and a call
 
 -- the place of a condition, the number of its actions, and `before` of each of its hints
 abbrev pub shape : Cond → ℕ × ℕ × List ℕ
@@ -226,41 +224,6 @@ abbrev pub JoiningExample : Type 0
 JoiningExample =
     map shape (conditions joining_module)
     ≡ (30, 2, []) ∷ (25, 1, []) ∷ (50, 0, 0 ∷ 1 ∷ []) ∷ (60, 0, []) ∷ []
-
--- [p = old p]
-abbrev pub kept : Assertion
-kept = asserts (term.Pure (pure.Equal (word (codes "p")) (WordVar (var.Old (name (codes "p"))))) ∷ [])
-
--- hint fold lseg(n, 0, _) case 2; hint append p; hint fold lst(p, _) case 1; return n;
-abbrev pub found_body : List Stmt
-found_body =
-    record { at = 30; kind = HintStmt (hint.Fold (name (codes "lseg")) (arg.Word 0 (word (codes "n")) ∷ arg.Word 0 (Number 0) ∷ hole ∷ []) 2) }
-    ∷ record { at = 40; kind = HintStmt (hint.Append (word (codes "p"))) }
-    ∷ record { at = 50; kind = HintStmt (hint.Fold (name (codes "lst")) (arg.Word 0 (word (codes "p")) ∷ hole ∷ []) 1) }
-    ∷ record { at = 60; kind = Return (operand.Local (name (codes "n"))) } ∷ []
-
--- find n, v for a in p of s as u, t keep [p = old p] { .. return n; } return 0;
--- The places of `find`, of `return n` and of `return 0` are 10, 60 and 70.
-abbrev pub finding_function : Function
-finding_function = function_of (name (codes "n") ∷ name (codes "v") ∷ []) (
-    record {
-      at = 10;
-      kind = Find (name (codes "n")) (name (codes "v")) (operand.Local (name (codes "a"))) (name (codes "p")) (sequence (codes "s"))
-          (name (codes "u")) (name (codes "t")) kept found_body;
-    }
-    ∷ record { at = 70; kind = Return (operand.Number 0) } ∷ []
-    )
-
-abbrev pub finding_module : Module
-finding_module =
-    module_of (record (signature (name (codes "p") ∷ name (codes "a") ∷ []) just_emp just_emp) { logical = bind (codes "s") sort.Seq ∷ [] }) finding_function
-
--- one action and two hints come to the loop; n != 0, v <- [n] and v = a to `return n`; n != 0, v <- [n], v != a, v <- [n + 4] and
--- n <- v to the loop's back edge; and n = 0 to `return 0`
-abbrev pub FindingExample : Type 0
-FindingExample =
-    map shape (conditions finding_module)
-    ≡ (10, 1, 0 ∷ 1 ∷ []) ∷ (60, 3, 1 ∷ 3 ∷ 3 ∷ 3 ∷ []) ∷ (10, 5, 1 ∷ 4 ∷ 4 ∷ 4 ∷ []) ∷ (70, 1, 1 ∷ 1 ∷ []) ∷ []
 
 -- ---- a call that is valid
 

@@ -48,6 +48,10 @@ ListLoopsAreWritten = (body : List Stmt) → is_plain (written body) ≡ true
 abbrev pub CodeIsSame : Type 0
 CodeIsSame = (body : List Stmt) → body_piece (written body) ≡ body_piece body
 
+-- a path makes the same of a body and of what is written out, where it goes on and what it owes
+abbrev pub PathsAreSame : Type 0
+PathsAreSame = (site : Site) (body : List Stmt) → body_part site (written body) ≡ body_part site body
+
 -- no path goes on after statements that can't fall through
 abbrev pub PathsEnd : Type 0
 PathsEnd = (site : Site) (body : List Stmt) → (body_piece body).falls ≡ false → (p : Path) → (body_part site body).goes_on p ≡ None

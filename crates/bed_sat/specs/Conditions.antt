@@ -5,16 +5,19 @@
 -- after a call with its `after` assertion. Conditions stand in the order in which a walk of the text meets their goals, a loop's
 -- back edge at the end of its body and a join's goal at the end of each body that falls through. The place of a condition is
 -- the first token of its `return` or call statement, or the token `join` or `invariant`. In the text `find` and `walk` are written
--- out first; what is made for them stands at the token `find` or `walk`.
-use Rattle.std.specs.Prelude.{ℕ, ◌+◌, Bool, true, false, Option, Some, None, option_map, option_and_then, List, [], ◌∷◌, ◌++◌, map, length, flat_map}
+-- out first; what is made for them stands at the token `find` or `walk`. What a path makes of them is what it makes of the
+-- statements that they stand for: a law says so.
+use Rattle.std.specs.Prelude.{ℕ, ◌+◌, Bool, true, false, Option, Some, None, option_map, option_and_then, List, [], ◌∷◌, ◌++◌, map, length, flat_map, codes}
 use Rattle.std.specs.Option.{option_or}
 use Rattle.bed_lang.specs.declared.word.Name.{Name}
 use Rattle.bed_lang.specs.declared.logic.Assertion.{Assertion}
 use Rattle.bed_lang.specs.declared.module.Operand.{Operand}
+use Rattle.bed_lang.specs.declared.module.Operand.TheVariants.{Local}
 use Rattle.bed_lang.specs.declared.module.Rel.{Rel}
 use Rattle.bed_lang.specs.declared.module.Rel.TheVariants.{Equal, Unequal, Less, AtMost}
 use Rattle.bed_lang.specs.declared.module.Test.{Test}
 use Rattle.bed_lang.specs.declared.module.Hint.{Hint}
+use Rattle.bed_lang.specs.declared.module.Hint.TheVariants.{Append}
 use Rattle.bed_lang.specs.declared.module.Join.{Join}
 use Rattle.bed_lang.specs.declared.module.Signature.{Signature}
 use Rattle.bed_lang.specs.declared.module.Function.{Function}
@@ -29,7 +32,8 @@ use Rattle.bed_lang.specs.declared.statement.Stmt.{Stmt, Stmt-F, fold-Stmt}
 use Rattle.bed_lang.specs.declared.statement.StmtKind.{StmtKind, StmtKind-F, fold-StmtKind}
 use Rattle.bed_lang.specs.Lookups.{first_signature}
 use Rattle.bed_table.specs.Code.{locals_of}
-use Rattle.bed_sat.specs.Written.{written}
+use Rattle.bed_table.specs.ListLoops.{word_named, list_invariant, not_yet, not_null, is_key, field_at}
+use Rattle.bed_sat.specs.Written.{unfold_at, fold_segment, fold_list, made_test, written}
 
 -- a path from an annotated point: whether that is the entry, what holds there, and the actions and hints since then
 pub record Path : Type 0 where
@@ -91,6 +95,13 @@ pub record Part : Type 0 where
 -- a part that each path leaves, and that owes nothing
 abbrev pub straight : (Path → Path) → Part
 straight f = record { goes_on = λ p. Some (f p); owes = λ p. [] }
+
+-- an action, and a hint
+abbrev pub acted : Action → Part
+acted a = straight (then_action a)
+
+abbrev pub hinted : Hint → Part
+hinted h = straight (then_hint h)
 
 -- what a part owes for the path that comes to it, if one does
 abbrev pub owed_from : Option Path → Part → List Cond
@@ -164,21 +175,35 @@ module _ (site : Site) where
     owes = λ p. yes_part.owes (where_true t p) ++ no_part.owes (where_false t p);
   }
 
-  -- each kind of statement at a place. `find` and `walk` are written out before, and make nothing of a path here.
+  -- find and walk at a place, by their invariant and by what is done at a node: the parts of the statements that they stand for
+  abbrev pub list_loop : ℕ → Name → Name → Name → Assertion → Part → Part
+  list_loop at n v p invariant visit =
+      in_order (
+      hinted (unfold_at (codes "lst") p) ∷ acted (action.Assign n (Local p)) ∷ hinted (fold_segment p n 1)
+      ∷ loop (made_test at (not_null n)) at invariant (in_order (
+      hinted (unfold_at (codes "lseg") n) ∷ acted (action.Load v (field_at n 0)) ∷ visit
+      ∷ acted (action.Load v (field_at n 4)) ∷ hinted (fold_segment v v 1) ∷ hinted (fold_segment n v 2)
+      ∷ hinted (Append (word_named p)) ∷ acted (action.Assign n (Local v)) ∷ []
+      ))
+      ∷ hinted (unfold_at (codes "lseg") n) ∷ hinted (fold_list p) ∷ []
+      )
+
+  -- each kind of statement at a place
   abbrev pub kind_part_step : StmtKind-F (ℕ → Part) Part → ℕ → Part
-  kind_part_step (StmtKind-F.Assign x a) at = straight (then_action (action.Assign x a))
-  kind_part_step (StmtKind-F.Compute x op a b) at = straight (then_action (action.Compute x op a b))
-  kind_part_step (StmtKind-F.Load x p) at = straight (then_action (action.Load x p))
-  kind_part_step (StmtKind-F.LoadByte x p) at = straight (then_action (action.LoadByte x p))
-  kind_part_step (StmtKind-F.Store p a) at = straight (then_action (action.Store p a))
-  kind_part_step (StmtKind-F.StoreByte p a) at = straight (then_action (action.StoreByte p a))
+  kind_part_step (StmtKind-F.Assign x a) at = acted (action.Assign x a)
+  kind_part_step (StmtKind-F.Compute x op a b) at = acted (action.Compute x op a b)
+  kind_part_step (StmtKind-F.Load x p) at = acted (action.Load x p)
+  kind_part_step (StmtKind-F.LoadByte x p) at = acted (action.LoadByte x p)
+  kind_part_step (StmtKind-F.Store p a) at = acted (action.Store p a)
+  kind_part_step (StmtKind-F.StoreByte p a) at = acted (action.StoreByte p a)
   kind_part_step (StmtKind-F.Call place into target via args hints after) at = call at into target via args hints after
   kind_part_step (StmtKind-F.If test ys ns join) at = choice test (in_order ys) (in_order ns) join
   kind_part_step (StmtKind-F.While test place invariant body) at = loop test place invariant (in_order body)
   kind_part_step (StmtKind-F.Return a) at = answer at a
-  kind_part_step (StmtKind-F.Hint h) at = straight (then_hint h)
-  kind_part_step (StmtKind-F.Find n v a p s u t keep body) at = straight (λ p. p)
-  kind_part_step (StmtKind-F.Walk n v p s u t keep body) at = straight (λ p. p)
+  kind_part_step (StmtKind-F.Hint h) at = hinted h
+  kind_part_step (StmtKind-F.Find n v a p s u t keep body) at =
+      list_loop at n v p (list_invariant n p s u t (not_yet a u) keep) (choice (made_test at (is_key v a)) (in_order body) (in_order []) None)
+  kind_part_step (StmtKind-F.Walk n v p s u t keep body) at = list_loop at n v p (list_invariant n p s u t [] keep) (in_order body)
 
   abbrev pub kind_part : StmtKind → ℕ → Part
   kind_part = fold-StmtKind (ℕ → Part) Part kind_part_step part_step

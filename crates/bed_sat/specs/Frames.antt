@@ -87,15 +87,20 @@ module _ (w : World) where
     pub keeps : Includes rest F
     pub enters : Enters S values s rest
 
-  -- A state meets the invariant of a loop in a function with this signature and these locals, the arguments first: for some
-  -- values of the logical variables and of the arguments at entry, and beside some rest that contains F, the invariant holds
-  -- with each local read from its slot. The slots are the words 1, 2 and so on of the frame.
+  -- A memory meets the invariant of a loop in a function with this signature and these locals, the arguments first, under these
+  -- values of the logical variables and of the arguments at entry, beside F: it is the disjoint union of the frame at sp with any
+  -- contents, of a part on which the invariant holds, each local read from its slot, and of F. The slots are the words 1, 2 and so
+  -- on of the frame.
+  pub record InvariantAt (S : Signature) (locals : List Name) (invariant : Assertion) (ν : Values) (sp : ℕ) (m F : Memory) : Type 0 where
+    pub frame : Memory
+    pub heap : Memory
+    pub parts : JoinsAll m (frame ∷ heap ∷ F ∷ [])
+    pub is_frame : IsBlock sp (frame_size S) frame
+    pub holds : Holds w (set_words ν locals (words_at m (wrap (sp + 4)) (length locals))) heap invariant
+
+  -- a state meets the invariant of a loop for some values, beside some rest that contains F
   pub record IsAtLoop (S : Signature) (locals : List Name) (invariant : Assertion) (s : MachineState) (F : Memory) : Type 0 where
     pub values : Values
     pub rest : Memory
     pub keeps : Includes rest F
-    pub frame : Memory
-    pub heap : Memory
-    pub parts : JoinsAll s.memory (frame ∷ heap ∷ rest ∷ [])
-    pub is_frame : IsBlock s.regs.ebp (frame_size S) frame
-    pub holds : Holds w (set_words values locals (words_at s.memory (wrap (s.regs.ebp + 4)) (length locals))) heap invariant
+    pub meets : InvariantAt S locals invariant values s.regs.ebp s.memory rest

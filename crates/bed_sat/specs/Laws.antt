@@ -1,5 +1,5 @@
 -- What the definitions give: statements of laws.
-use Rattle.std.specs.Prelude.{◌≡◌, ◌↔◌, ℕ, ◌+◌, ◌*◌, ◌<◌, ◌≤◌, IsTrue, Option, Some, Result, List, ◌++◌, length, slice_index, slice_set}
+use Rattle.std.specs.Prelude.{◌≡◌, ◌↔◌, ℕ, ◌+◌, ◌*◌, ◌<◌, ◌≤◌, IsTrue, Some, Result, List, ◌++◌, length, slice_index, slice_set}
 use Rattle.bed_machine.specs.declared.machine.Fault.{Fault}
 use Rattle.bed_lang.specs.Numbers.{wrap}
 use Rattle.bed_machine.specs.Memory.{Memory, word_at, put_word}
@@ -10,7 +10,6 @@ use Rattle.bed_lang.specs.declared.word.Word.{Word}
 use Rattle.bed_lang.specs.declared.logic.Term.{Term}
 use Rattle.bed_lang.specs.declared.logic.Assertion.{Assertion}
 use Rattle.bed_lang.specs.declared.module.Signature.{Signature}
-use Rattle.bed_lang.specs.declared.condition.Decls.{Decls}
 use Rattle.bed_lang.specs.Same.{same_assertion, same_signature}
 use Rattle.bed_lang.specs.Substitution.{replaced, HasValueWith}
 use Rattle.bed_lang.specs.Values.{Values}
@@ -19,10 +18,9 @@ use Rattle.bed_sat.specs.Cells.{IsCell, AreWordsAt, IsBlock}
 use Rattle.bed_sat.specs.Assertions.{AreTrueTerms, World, meaning, Sat, Holds}
 use Rattle.bed_sat.specs.Frames.{Enters, Returned}
 use Rattle.bed_sat.specs.Runs.{Outside, Turn, IsRun}
-use Rattle.bed_sat.specs.Sound.{Linked, IsSound}
+use Rattle.bed_sat.specs.Sound.{Linked, IsSound, IsSoundFromAll}
 use Rattle.bed_sat.specs.Returns.{IsReturnProgram}
 use Rattle.bed_sat.specs.Scopes.{Scope, Agree, assertion_in}
-use Rattle.bed_sat.specs.Declarations.{Extends}
 use Rattle.bed_lang.specs.Instances.{Instance, values_with, terms_with}
 
 -- the order of two parts doesn't matter
@@ -99,14 +97,6 @@ SignaturesAreAside =
     (w : World) (S T : Signature) (ν : Values) (s t : MachineState) (F : Memory) → IsTrue (same_signature S T)
     → (Enters w S ν s F → Enters w T ν s F) × (Returned w S ν s t F → Returned w T ν s t F)
 
--- what holds under some declarations holds under more
-abbrev pub MoreIsDeclared : Type 0
-MoreIsDeclared =
-    (few more : Decls) (codes : ℕ → Option (List ℕ)) (labels : List ℕ → ℕ) → Extends few more
-    → (ν : Values) (h : Memory) (A : Assertion)
-    → Holds (record { decls = few; codes = codes; labels = labels }) ν h A
-    → Holds (record { decls = more; codes = codes; labels = labels }) ν h A
-
 -- a word with another in place of a variable has the value that the word has where the variable has the other's
 abbrev pub SubstitutionAgrees : Type 0
 SubstitutionAgrees = (v : Var) (by w : Word) → HasValueWith v by w (replaced v by w)
@@ -133,6 +123,13 @@ TurnsKeepStates =
 abbrev pub StepsAreUnique : Type 0
 StepsAreUnique = (c : MachineCode) (s : MachineState) (r q : Result MachineState Fault) → IsStep c s r → IsStep c s q → r ≡ q
 
--- code of functions that only return a value is sound
+-- code of functions that only return a value is sound, from its exported functions and from all
 abbrev pub ReturnsAreSound : Type 0
 ReturnsAreSound = (p : Linked) → IsReturnProgram p → IsSound p
+
+abbrev pub ReturnsAreSoundFromAll : Type 0
+ReturnsAreSoundFromAll = (p : Linked) → IsReturnProgram p → IsSoundFromAll p
+
+-- code that is sound from all its functions is so from the exported ones
+abbrev pub ExportedAreAmongAll : Type 0
+ExportedAreAmongAll = (p : Linked) → IsSoundFromAll p → IsSound p

@@ -17,6 +17,8 @@ pub mod Written
 pub mod Conditions
 pub mod Valid
 pub mod ConditionExamples
+pub mod ListLoopExamples
 pub mod ConditionLaws
+pub mod DeclarationLaws
 pub mod SoundExamples
 pub mod BodyExamples

@@ -56,11 +56,10 @@ pub record IsOutsideOf (p : Linked) (X : Outside) : Type 0 where
   pub declared : (a : ℕ) (name : List ℕ) → X a ≡ Some name → IsSome (signature_of (world_of p X) name)
   pub apart : (a : ℕ) → IsInCode p.code a → X a ≡ None
 
--- a start: a state at an exported function that meets its signature under these values beside F, with a return address that is
--- neither in the code nor in the outside
+-- a start: a state at a function that meets its signature under these values beside F, with a return address that is neither in
+-- the code nor in the outside
 pub record IsStart (p : Linked) (X : Outside) (f : FunctionAt) (ν : Values) (s : MachineState) (F : Memory) : Type 0 where
   pub listed : Contains p.functions f
-  pub exported : IsTrue f.exported
   pub state : IsState s
   pub eip : s.eip ≡ f.address
   pub enters : Enters (world_of p X) f.signature ν s F
@@ -86,9 +85,18 @@ pub record IsFine (p : Linked) (X : Outside) (f : FunctionAt) (ν : Values) (sta
       → Meets (world_of p X) S s F × IsInCode p.code s.regs.esi
   pub at_return : s.eip ≡ start.regs.esi → Returned (world_of p X) f.signature ν start s F
 
--- the code is sound: for every outside, every start and every number of turns, each state of the run is fine
-pub record IsSound (p : Linked) : Type 0 where
+-- the code is sound from these functions: for every outside, every start at one of them and every number of turns, each state of
+-- the run is fine
+pub record IsSoundFrom (p : Linked) (IsStarted : FunctionAt → Type 0) : Type 0 where
   pub fine : (X : Outside) → IsOutsideOf p X
-      → (f : FunctionAt) (ν : Values) (s : MachineState) (F : Memory) → IsStart p X f ν s F
+      → (f : FunctionAt) (ν : Values) (s : MachineState) (F : Memory) → IsStarted f → IsStart p X f ν s F
       → (states : List MachineState) → IsRun (world_of p X) p.code X s.regs.esi s states
       → All (IsFine p X f ν s F) (s ∷ states)
+
+-- the code is sound: from its exported functions
+abbrev pub IsSound : Linked → Type 0
+IsSound p = IsSoundFrom p (λ f. IsTrue f.exported)
+
+-- the code is sound from all its functions
+abbrev pub IsSoundFromAll : Linked → Type 0
+IsSoundFromAll p = IsSoundFrom p (λ f. Unit {0})

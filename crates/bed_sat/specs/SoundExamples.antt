@@ -1,6 +1,6 @@
 -- Code of a few bytes that is sound, or that isn't by one clause of soundness alone; and what stands where in the code of small
 -- modules. Above each example stands a slip in a definition under which it would be false.
-use Rattle.std.specs.Prelude.{◌≡◌, ℕ, true, false, Some, None, List, [], ◌∷◌, codes, nat_eq, if◌then◌else◌}
+use Rattle.std.specs.Prelude.{◌≡◌, ℕ, Bool, true, false, Some, None, List, [], ◌∷◌, codes, nat_eq, if◌then◌else◌}
 use Rattle.bed_machine.specs.Memory.{Memory, empty, put_word}
 use Rattle.bed_machine.specs.Machine.{MachineState}
 use Rattle.bed_lang.specs.declared.word.Word.{Number}
@@ -8,7 +8,12 @@ use Rattle.bed_lang.specs.declared.logic.Pure.TheVariants as pure
 use Rattle.bed_lang.specs.declared.logic.Atom.TheVariants as atom
 use Rattle.bed_lang.specs.declared.logic.Term.TheVariants as term
 use Rattle.bed_lang.specs.declared.logic.Assertion.{Assertion}
+use Rattle.bed_lang.specs.declared.module.Operand.TheVariants.{Local}
 use Rattle.bed_lang.specs.declared.module.Signature.{Signature}
+use Rattle.bed_lang.specs.declared.module.Import.{Import}
+use Rattle.bed_lang.specs.declared.module.Function.{Function}
+use Rattle.bed_lang.specs.declared.module.Module.{Module}
+use Rattle.bed_lang.specs.declared.statement.StmtKind.{Return}
 use Rattle.bed_lang.specs.Prelude.{name, word}
 use Rattle.bed_sat.specs.Assertions.{World, blank}
 use Rattle.bed_sat.specs.Frames.{Meets, IsAtLoop}
@@ -16,7 +21,7 @@ use Rattle.bed_sat.specs.Runs.{Outside, Turn, IsRun}
 use Rattle.bed_sat.specs.Sound.{FunctionAt, LoopAt, Linked, world_of, IsOutsideOf, IsStart, IsFine, IsSound}
 use Rattle.bed_sat.specs.Linking.{linked}
 use Rattle.bed_sat.specs.Examples.{bytes_at, asserts, start_state}
-use Rattle.bed_sat.specs.ConditionExamples.{name_at, just_emp, counting_signature, counting_invariant, counting_module, calling_module}
+use Rattle.bed_sat.specs.ConditionExamples.{name_at, just_emp, counting_signature, counting_invariant, counting_module, imported_signature, calling_module}
 
 -- [n = v], where n is the argument, and [1 = 2]
 abbrev pub n_is : ℕ → Assertion
@@ -219,3 +224,58 @@ abbrev pub ImportingLinkExample : Type 0
 ImportingLinkExample =
     ((linked (calling_module ∷ []) 0x400000 ((name (codes "g"), 0x500000) ∷ [])).imports ≡ record { address = 0x500000; signature = codes "G" } ∷ [])
     × ((linked (calling_module ∷ []) 0x400000 ((name (codes "g"), 0x500000) ∷ [])).labels (codes "g") ≡ 0x500000)
+
+-- module a; signature G(x) pre emp post [result = x]; function h: G { return x; } export function g: G { return x; }
+abbrev pub returning_function : List ℕ → Bool → Function
+returning_function called exported = record {
+  name = name called;
+  exported = exported;
+  signature = name (codes "G");
+  locals = [];
+  body = record { at = 10; kind = Return (Local (name (codes "x"))) } ∷ [];
+  end = 0;
+}
+
+abbrev pub first_module : Module
+first_module = record {
+  name = name (codes "a");
+  signatures = imported_signature ∷ [];
+  predicates = [];
+  imports = [];
+  functions = returning_function (codes "h") false ∷ returning_function (codes "g") true ∷ [];
+}
+
+-- the module that counts, with import g: G; and import say: G;
+abbrev pub import_of : List ℕ → Import
+import_of called = record { name = name called; signature = name (codes "G") }
+
+abbrev pub second_module : Module
+second_module = record counting_module {
+  signatures = counting_signature ∷ imported_signature ∷ [];
+  imports = import_of (codes "g") ∷ import_of (codes "say") ∷ [];
+}
+
+-- both at 0x400000, where say stands at 0x500000
+abbrev pub two_linked : Linked
+two_linked = linked (first_module ∷ second_module ∷ []) 0x400000 ((name (codes "say"), 0x500000) ∷ [])
+
+-- Slip: a function that isn't right behind the one before it, one of another module left out, an import that a module exports
+-- listed as the outside's, or a label at another address. Each function of `first_module` has 22 bytes.
+abbrev pub TwoModulesLinkExample : Type 0
+TwoModulesLinkExample =
+    (two_linked.functions
+    ≡ record { address = 0x400000; signature = imported_signature; exported = false }
+    ∷ record { address = 0x400016; signature = imported_signature; exported = true }
+    ∷ record { address = 0x40002C; signature = counting_signature; exported = true } ∷ [])
+    × (two_linked.loops
+    ≡ record {
+      address = 0x40003D;
+      signature = counting_signature;
+      locals = name_at (codes "n") 22 ∷ name_at (codes "i") 96 ∷ [];
+      invariant = counting_invariant;
+    } ∷ [])
+    × (two_linked.imports ≡ record { address = 0x500000; signature = codes "G" } ∷ [])
+    × (two_linked.labels (codes "h") ≡ 0x400000)
+    × (two_linked.labels (codes "g") ≡ 0x400016)
+    × (two_linked.labels (codes "count") ≡ 0x40002C)
+    × (two_linked.labels (codes "say") ≡ 0x500000)

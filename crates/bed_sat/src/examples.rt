@@ -1,9 +1,10 @@
 //! Examples of the definitions. Each function here does nothing: its contract is an example.
 
 ghost use Rattle.bed_sat.specs.Examples.{BlockExample, ForgottenExample, SegmentExample, NowhereExample, WrapExample, SevenExample, TwoFunctionsExample, EightExample, LooseExample, NoFunctionsExample};
-ghost use Rattle.bed_sat.specs.SoundExamples.{SpinningExample, WrongInvariantExample, StartersCellExample, StrayExample, UndefinedExample, OverwritingExample, JumpingExample, CallingExample, DishonestExample, UnmetCallExample, TailCallExample, CountingLinkExample, ImportingLinkExample};
+ghost use Rattle.bed_sat.specs.SoundExamples.{SpinningExample, WrongInvariantExample, StartersCellExample, StrayExample, UndefinedExample, OverwritingExample, JumpingExample, CallingExample, DishonestExample, UnmetCallExample, TailCallExample, CountingLinkExample, ImportingLinkExample, TwoModulesLinkExample};
 ghost use Rattle.bed_sat.specs.BodyExamples.{WrongAfterExample, NoCellExample, DroppedCellExample, CellStaysExample, UnknownTargetExample, StoringExample, ByteExample, UnmappedStoreExample, LiveBodiesExample};
-ghost use Rattle.bed_sat.specs.ConditionExamples.{CountingExample, JoiningExample, FindingExample, CountingIsValidExample, CallIsValidExample, ForgottenCellExample, UnmappedLoadExample, WrappingSumExample};
+ghost use Rattle.bed_sat.specs.ConditionExamples.{CountingExample, JoiningExample, CountingIsValidExample, CallIsValidExample, ForgottenCellExample, UnmappedLoadExample, WrappingSumExample};
+ghost use Rattle.bed_sat.specs.ListLoopExamples.{FindingExample, WalkingExample};
 
 /// Assertions on small memories: a block and a list segment hold on exactly their bytes, an assertion
 /// that forgets a cell doesn't, a byte above 255 and a cell whose last byte has no address hold
@@ -52,19 +53,22 @@ pub fn outside()
 {}
 
 /// What stands where in the code of small modules: the function and the loop of the one that counts,
-/// with the loop's locals and invariant, and the import of one with a call.
+/// with the loop's locals and invariant, the import of one with a call, and all of two modules of which the
+/// second imports a function of the first, and one of the outside.
 pub fn links()
     ensures counting { CountingLinkExample }
     ensures importing { ImportingLinkExample }
+    ensures two_modules { TwoModulesLinkExample }
 {}
 
-/// The conditions of small texts: of a loop that counts, whole; and of a body with a join and a call,
-/// and of one with a list loop, their places, the numbers of their actions and where their hints stand.
-/// A body of which one part returns is live, and one with a statement behind a `return` isn't.
+/// The conditions of small texts: of a loop that counts, of a `find` and of a `walk`, whole; and of a body
+/// with a join and a call their places, the numbers of their actions and where their hints stand. A body of
+/// which one part returns is live, and one with a statement behind a `return` isn't.
 pub fn conditions()
     ensures counting { CountingExample }
     ensures joining { JoiningExample }
     ensures finding { FindingExample }
+    ensures walking { WalkingExample }
     ensures live { LiveBodiesExample }
 {}
 

@@ -12,6 +12,3 @@ pub mod examples;
 pub mod laws;
 
 pub use comparison::eval_pure;
-
-#[cfg(test)]
-mod tests;

@@ -1,19 +1,18 @@
 -- The code of statements, put together from its parts.
-use Rattle.std.proofs.Common.{◌≡◌, ℕ, suc, ◌+◌, ◌<◌, ◌≤◌, Bool, true, false, Result, Ok, Err, OnOk, List, [], ◌∷◌, ◌++◌, map, length, drop, get_or, refl, sym, ◌∙◌, ap, ap₂, subst, arith, append_assoc, add-one, drop-cons}
+use Rattle.std.proofs.Common.{◌≡◌, ℕ, suc, ◌+◌, ◌<◌, ◌≤◌, Bool, Result, Ok, Err, OnOk, List, ◌∷◌, ◌++◌, map, length, drop, get_or, sym, ◌∙◌, ap, ap₂, arith, append_assoc, add-one, drop-cons}
 use Rattle.std.proofs.lemmas.List.{append-nil}
 use Rattle.bed_lang.specs.declared.word.Name.{Name}
 use Rattle.bed_lang.specs.declared.module.Operand.{Operand}
 use Rattle.bed_lang.specs.declared.module.Operand.TheVariants.{Local}
-use Rattle.bed_lang.specs.declared.word.Seq.{Seq}
 use Rattle.bed_lang.specs.declared.module.Test.{Test}
 use Rattle.bed_lang.specs.declared.logic.Assertion.{Assertion}
-use Rattle.bed_lang.specs.declared.statement.Stmt.{Stmt, Stmt-F, fold_out-Stmt}
+use Rattle.bed_lang.specs.declared.statement.Stmt.{Stmt, fold_out-Stmt}
 use Rattle.bed_lang.specs.declared.statement.StmtKind.{StmtKind, StmtKind-F, fold-roll-StmtKind, If, While, Find, Walk}
 use Rattle.bed_lang.specs.declared.statement.StmtKind.TheVariants.{rolls-If, rolls-While, rolls-Find, rolls-Walk}
-use Rattle.bed_table.specs.Pieces.{Piece, nothing, sequence, size_of, bytes_of, falls_after}
+use Rattle.bed_table.specs.Pieces.{Piece, nothing, size_of, bytes_of}
 use Rattle.bed_table.specs.CodeTable.{assignment, load, into_edx, arguments_size, arguments_bytes, transfer_bytes, call, operand_size, test_size, test_bytes, jump_size, jump_if, jump_bytes, choice, loop}
-use Rattle.bed_table.specs.ListLoops.{list_loop, finding, walking, list_invariant, not_yet, not_null, is_key, field_at}
-use Rattle.bed_table.specs.ListParts.{list_front, list_back}
+use Rattle.bed_table.specs.ListLoops.{list_loop, finding, walking, is_key, field_at}
+use Rattle.bed_table.specs.CodeParts.{guarded, list_front, list_back}
 use Rattle.bed_table.specs.Code.{kind_row, statement_row, kind_piece, piece, body_piece}
 
 pub on_ok : {A E : Type 0} (r : Result A E) (P Q : Type 0) → (P → Q) → OnOk r P → OnOk r Q
@@ -49,20 +48,13 @@ split body i s lt is = rw add-one (drop-cons body i s lt ∙ ap (λ x. x ∷ dro
 -- ---- parts that were appended one after the other
 
 module _ (locals : List Name) (labels : List ℕ → ℕ) where
-  pub choice_done : (t : Test) (p q : Piece) (at : ℕ) (o0 o1 o2 o3 o4 : List ℕ)
+  choice_done : (t : Test) (p q : Piece) (at : ℕ) (o0 o1 o2 o3 o4 : List ℕ)
       → o1 ≡ o0 ++ test_bytes locals labels t at (at + test_size t + p.size + jump_size p.falls)
       → o2 ≡ o1 ++ p.bytes locals labels (at + test_size t)
       → o3 ≡ o2 ++ jump_if p.falls (at + test_size t + p.size) (at + test_size t + p.size + jump_size p.falls + q.size)
       → o4 ≡ o3 ++ q.bytes locals labels (at + test_size t + p.size + jump_size p.falls)
       → o4 ≡ o0 ++ (choice t p q).bytes locals labels at
   choice_done t p q at o0 o1 o2 o3 o4 h1 h2 h3 h4 = rw (h4, h3, h2, h1) (simp append_assoc)
-
-  pub loop_done : (t : Test) (i : Assertion) (p : Piece) (at : ℕ) (o0 o1 o2 o3 : List ℕ)
-      → o1 ≡ o0 ++ test_bytes locals labels t at (at + test_size t + p.size + jump_size p.falls)
-      → o2 ≡ o1 ++ p.bytes locals labels (at + test_size t)
-      → o3 ≡ o2 ++ jump_if p.falls (at + test_size t + p.size) at
-      → o3 ≡ o0 ++ (loop t i p).bytes locals labels at
-  loop_done t i p at o0 o1 o2 o3 h1 h2 h3 = rw (h3, h2, h1) (simp append_assoc)
 
   pub call_done : (x : Name) (t : Operand) (as' : List Operand) (at m k : ℕ) (o0 o1 o2 o3 : List ℕ)
       → m ≡ arguments_size as' → k ≡ operand_size t
@@ -130,88 +122,80 @@ module _ (locals : List Name) (labels : List ℕ → ℕ) where
       → o ≡ o0 ++ p.bytes locals labels at → o ≡ o0 ++ (kind_piece k).bytes locals labels at
   at_row k p at o0 o e h = h ∙ ap (λ q. o0 ++ q.bytes locals labels at) (sym e)
 
-  pub choice_made : (t : Test) (p q p' q' : Piece) (at ts ps js qs : ℕ) (f : Bool) (o0 o1 o2 o3 o4 : List ℕ)
-      → p' ≡ p → q' ≡ q → f ≡ p'.falls → ts ≡ test_size t → ps ≡ p'.size → js ≡ jump_size f → qs ≡ q'.size
+  pub guarded_made : (t : Test) (p : Piece) (at ts ps js target : ℕ) (f : Bool) (o0 o1 o2 o3 : List ℕ)
+      → f ≡ p.falls → ts ≡ test_size t → ps ≡ p.size → js ≡ jump_size f
       → o1 ≡ o0 ++ test_bytes locals labels t at (at + ts + ps + js)
-      → o2 ≡ o1 ++ p'.bytes locals labels (at + ts)
-      → o3 ≡ o2 ++ jump_if f (at + ts + ps) (at + ts + ps + js + qs)
-      → o4 ≡ o3 ++ q'.bytes locals labels (at + ts + ps + js)
-      → o4 ≡ o0 ++ (choice t p q).bytes locals labels at
-  choice_made t p q p' q' at ts ps js qs f o0 o1 o2 o3 o4 ep eq ef ets eps ejs eqs h1 h2 h3 h4 =
-      let f_is : f ≡ p.falls = ef ∙ ap (λ x. x.falls) ep in
-      let ps_is : ps ≡ p.size = eps ∙ ap (λ x. x.size) ep in
-      let js_is : js ≡ jump_size p.falls = ejs ∙ ap jump_size f_is in
-      let qs_is : qs ≡ q.size = eqs ∙ ap (λ x. x.size) eq in
-      let yes_at : at + ts ≡ at + test_size t = ap (λ x. at + x) ets in
-      let jump_at : at + ts + ps ≡ at + test_size t + p.size = ap₂ (λ x y. x + y) yes_at ps_is in
-      let no_at : at + ts + ps + js ≡ at + test_size t + p.size + jump_size p.falls = ap₂ (λ x y. x + y) jump_at js_is in
-      let end_at : at + ts + ps + js + qs ≡ at + test_size t + p.size + jump_size p.falls + q.size = ap₂ (λ x y. x + y) no_at qs_is in
-      choice_done locals labels t p q at o0 o1 o2 o3 o4
-      (h1 ∙ ap (λ x. o0 ++ test_bytes locals labels t at x) no_at)
-      (h2 ∙ ap₂ (λ x y. o1 ++ x.bytes locals labels y) ep yes_at)
-      (h3 ∙ ap (λ g. o2 ++ jump_if g (at + ts + ps) (at + ts + ps + js + qs)) f_is ∙ ap₂ (λ x y. o2 ++ jump_if p.falls x y) jump_at end_at)
-      (h4 ∙ ap₂ (λ x y. o3 ++ x.bytes locals labels y) eq no_at)
-
-  pub loop_made : (t : Test) (i : Assertion) (p p' : Piece) (at ts ps js : ℕ) (f : Bool) (o0 o1 o2 o3 : List ℕ)
-      → p' ≡ p → f ≡ p'.falls → ts ≡ test_size t → ps ≡ p'.size → js ≡ jump_size f
-      → o1 ≡ o0 ++ test_bytes locals labels t at (at + ts + ps + js)
-      → o2 ≡ o1 ++ p'.bytes locals labels (at + ts)
-      → o3 ≡ o2 ++ jump_if f (at + ts + ps) at
-      → o3 ≡ o0 ++ (loop t i p).bytes locals labels at
-  loop_made t i p p' at ts ps js f o0 o1 o2 o3 ep ef ets eps ejs h1 h2 h3 =
-      let f_is : f ≡ p.falls = ef ∙ ap (λ x. x.falls) ep in
-      let ps_is : ps ≡ p.size = eps ∙ ap (λ x. x.size) ep in
-      let js_is : js ≡ jump_size p.falls = ejs ∙ ap jump_size f_is in
+      → o2 ≡ o1 ++ p.bytes locals labels (at + ts)
+      → o3 ≡ o2 ++ jump_if f (at + ts + ps) target
+      → o3 ≡ o0 ++ guarded locals labels t p at target
+  guarded_made t p at ts ps js target f o0 o1 o2 o3 ef ets eps ejs h1 h2 h3 =
+      let js_is : js ≡ jump_size p.falls = ejs ∙ ap jump_size ef in
       let body_at : at + ts ≡ at + test_size t = ap (λ x. at + x) ets in
-      let jump_at : at + ts + ps ≡ at + test_size t + p.size = ap₂ (λ x y. x + y) body_at ps_is in
+      let jump_at : at + ts + ps ≡ at + test_size t + p.size = ap₂ (λ x y. x + y) body_at eps in
       let end_at : at + ts + ps + js ≡ at + test_size t + p.size + jump_size p.falls = ap₂ (λ x y. x + y) jump_at js_is in
-      loop_done locals labels t i p at o0 o1 o2 o3
-      (h1 ∙ ap (λ x. o0 ++ test_bytes locals labels t at x) end_at)
-      (h2 ∙ ap₂ (λ x y. o1 ++ x.bytes locals labels y) ep body_at)
-      (h3 ∙ ap₂ (λ g x. o2 ++ jump_if g x at) f_is jump_at)
+      let test : List ℕ = test_bytes locals labels t at (at + test_size t + p.size + jump_size p.falls) in
+      let body : List ℕ = p.bytes locals labels (at + test_size t) in
+      h3 ∙ ap₂ (λ g x. o2 ++ jump_if g x target) ef jump_at
+      ∙ ap (λ l. l ++ jump_if p.falls (at + test_size t + p.size) target)
+      (h2 ∙ ap₂ (λ l x. l ++ p.bytes locals labels x) (h1 ∙ ap (λ x. o0 ++ test_bytes locals labels t at x) end_at) body_at)
+      ∙ append_assoc (o0 ++ test) body _ ∙ append_assoc o0 test _
 
-  pub walk_made : (n v p : Name) (s : Seq) (u t : Name) (keep : Assertion) (visit visit' : Piece) (at ps : ℕ) (o0 o1 o2 o3 : List ℕ)
-      → visit' ≡ visit → ps ≡ visit'.size
+  -- an `if` is its test with the first body, and the second body
+  pub choice_made : (t : Test) (p q : Piece) (at no_at target : ℕ) (o0 o1 o2 : List ℕ)
+      → no_at ≡ at + test_size t + p.size + jump_size p.falls → target ≡ no_at + q.size
+      → o1 ≡ o0 ++ guarded locals labels t p at target
+      → o2 ≡ o1 ++ q.bytes locals labels no_at
+      → o2 ≡ o0 ++ (choice t p q).bytes locals labels at
+  choice_made t p q at no_at target o0 o1 o2 en et h1 h2 =
+      let next : ℕ = at + test_size t + p.size + jump_size p.falls in
+      let test : List ℕ = test_bytes locals labels t at next in
+      let body : List ℕ = p.bytes locals labels (at + test_size t) in
+      let over : List ℕ = jump_if p.falls (at + test_size t + p.size) (next + q.size) in
+      let target_is : target ≡ next + q.size = et ∙ ap (λ x. x + q.size) en in
+      h2 ∙ ap₂ (λ l x. l ++ q.bytes locals labels x) (h1 ∙ ap (λ x. o0 ++ guarded locals labels t p at x) target_is) en
+      ∙ append_assoc o0 (test ++ (body ++ over)) (q.bytes locals labels next)
+      ∙ ap (λ l. o0 ++ l) (append_assoc test (body ++ over) (q.bytes locals labels next) ∙ ap (λ l. test ++ l) (append_assoc body over (q.bytes locals labels next)))
+
+  pub walk_made : (n v p : Name) (i : Assertion) (visit : Piece) (at ps : ℕ) (o0 o1 o2 o3 : List ℕ)
+      → ps ≡ visit.size
       → o1 ≡ o0 ++ list_front locals labels n v p at (at + 49 + ps + 35)
-      → o2 ≡ o1 ++ visit'.bytes locals labels (at + 49)
+      → o2 ≡ o1 ++ visit.bytes locals labels (at + 49)
       → o3 ≡ o2 ++ list_back locals labels n v (at + 49 + ps + 30) (at + 12)
-      → o3 ≡ o0 ++ (walking n v p s u t keep visit).bytes locals labels at
-  walk_made n v p s u t keep visit visit' at ps o0 o1 o2 o3 ep eps h1 h2 h3 =
-      let ps_is : ps ≡ visit.size = eps ∙ ap (λ x. x.size) ep in
-      walk_done locals labels n v p (list_invariant n p s u t [] keep) visit at o0 o1 o2 o3
+      → o3 ≡ o0 ++ (list_loop n v p i visit).bytes locals labels at
+  walk_made n v p i visit at ps o0 o1 o2 o3 ps_is h1 h2 h3 =
+      walk_done locals labels n v p i visit at o0 o1 o2 o3
       (h1 ∙ ap (λ x. o0 ++ list_front locals labels n v p at (at + 49 + x + 35)) ps_is)
-      (h2 ∙ ap (λ x. o1 ++ x.bytes locals labels (at + 49)) ep)
+      h2
       (h3 ∙ ap (λ x. o2 ++ list_back locals labels n v (at + 49 + x + 30) (at + 12)) ps_is)
 
-  pub find_made : (n v : Name) (a : Operand) (p : Name) (s : Seq) (u t : Name) (keep : Assertion) (body body' : Piece) (at ks ps js : ℕ) (f : Bool)
-      (o0 o1 o2 o3 o4 o5 : List ℕ)
-      → body' ≡ body → f ≡ body'.falls → ks ≡ operand_size a → ps ≡ body'.size → js ≡ jump_size f
-      → o1 ≡ o0 ++ list_front locals labels n v p at (at + 63 + ks + ps + js + 35)
-      → o2 ≡ o1 ++ test_bytes locals labels (is_key v a) (at + 49) (at + 63 + ks + ps + js)
-      → o3 ≡ o2 ++ body'.bytes locals labels (at + 63 + ks)
-      → o4 ≡ o3 ++ jump_if f (at + 63 + ks + ps) (at + 63 + ks + ps + js)
-      → o5 ≡ o4 ++ list_back locals labels n v (at + 63 + ks + ps + js + 30) (at + 12)
-      → o5 ≡ o0 ++ (finding n v a p s u t keep body).bytes locals labels at
-  find_made n v a p s u t keep body body' at ks ps js f o0 o1 o2 o3 o4 o5 ep ef eks eps ejs h1 h2 h3 h4 h5 =
-      let f_is : f ≡ body.falls = ef ∙ ap (λ x. x.falls) ep in
-      let ps_is : ps ≡ body.size = eps ∙ ap (λ x. x.size) ep in
-      let j : ℕ = jump_size body.falls in
-      let js_is : js ≡ j = ejs ∙ ap jump_size f_is in
-      let k : ℕ = operand_size a in
-      let b : ℕ = body.size in
-      let end_is : at + 63 + ks + ps + js + 35 ≡ at + 49 + (6 + k + 8 + (b + (j + 0))) + 35 = omega (arith, eks, ps_is, js_is) in
-      let next_is : at + 63 + ks + ps + js ≡ at + 49 + (6 + k + 8) + b + j = omega (arith, eks, ps_is, js_is) in
-      let over_is : at + 63 + ks + ps + js ≡ at + 49 + (6 + k + 8) + b + j + 0 = omega (arith, eks, ps_is, js_is) in
-      let body_is : at + 63 + ks ≡ at + 49 + (6 + k + 8) = omega (arith, eks) in
-      let jump_is : at + 63 + ks + ps ≡ at + 49 + (6 + k + 8) + b = omega (arith, eks, ps_is) in
-      let back_is : at + 63 + ks + ps + js + 30 ≡ at + 49 + (6 + k + 8 + (b + (j + 0))) + 30 = omega (arith, eks, ps_is, js_is) in
+  pub find_made : (n v : Name) (a : Operand) (p : Name) (i : Assertion) (body : Piece) (at ks ps js : ℕ) (f : Bool) (o0 o1 o2 o3 o4 o5 : List ℕ)
+      → f ≡ body.falls → ks ≡ operand_size a + 14 → ps ≡ body.size → js ≡ jump_size f
+      → o1 ≡ o0 ++ list_front locals labels n v p at (at + 49 + ks + ps + js + 35)
+      → o2 ≡ o1 ++ test_bytes locals labels (is_key v a) (at + 49) (at + 49 + ks + ps + js)
+      → o3 ≡ o2 ++ body.bytes locals labels (at + 49 + ks)
+      → o4 ≡ o3 ++ jump_if f (at + 49 + ks + ps) (at + 49 + ks + ps + js)
+      → o5 ≡ o4 ++ list_back locals labels n v (at + 49 + ks + ps + js + 30) (at + 12)
+      → o5 ≡ o0 ++ (list_loop n v p i (choice (is_key v a) body nothing)).bytes locals labels at
+  find_made n v a p i body at ks ps js f o0 o1 o2 o3 o4 o5 ef eks eps ejs h1 h2 h3 h4 h5 =
+      let k : ℕ = test_size (is_key v a) in
+      let ks_is : ks ≡ k = omega (arith, eks) in
+      let over : at + 49 + ks + ps + js ≡ at + 49 + ks + ps + js + 0 = omega arith in
+      let jump_is : at + 49 + ks + ps ≡ at + 49 + k + body.size = ap₂ (λ x y. at + 49 + x + y) ks_is eps in
+      let next_is : at + 49 + ks + ps + js ≡ at + 49 + k + body.size + jump_size body.falls = ap₂ (λ x y. x + y) jump_is (ejs ∙ ap jump_size ef) in
       let visited : o4 ≡ o1 ++ (choice (is_key v a) body nothing).bytes locals labels (at + 49) =
       choice_done locals labels (is_key v a) body nothing (at + 49) o1 o2 o3 o4 o4
       (h2 ∙ ap (λ x. o1 ++ test_bytes locals labels (is_key v a) (at + 49) x) next_is)
-      (h3 ∙ ap₂ (λ x y. o2 ++ x.bytes locals labels y) ep body_is)
-      (h4 ∙ ap (λ g. o3 ++ jump_if g (at + 63 + ks + ps) (at + 63 + ks + ps + js)) f_is ∙ ap₂ (λ x y. o3 ++ jump_if body.falls x y) jump_is over_is)
+      (h3 ∙ ap (λ x. o2 ++ body.bytes locals labels (at + 49 + x)) ks_is)
+      (h4 ∙ ap (λ x. o3 ++ jump_if f (at + 49 + ks + ps) x) over
+      ∙ ap₂ (λ g x. o3 ++ jump_if g x (at + 49 + ks + ps + js + 0)) ef jump_is
+      ∙ ap (λ x. o3 ++ jump_if body.falls (at + 49 + k + body.size) (x + 0)) next_is)
       (sym (append-nil o4)) in
-      walk_done locals labels n v p (list_invariant n p s u t (not_yet a u) keep) (choice (is_key v a) body nothing) at o0 o1 o4 o5
+      let size : ℕ = ks + (ps + (js + 0)) in
+      let size_is : size ≡ (choice (is_key v a) body nothing).size =
+      ap₂ (λ x y. x + y) ks_is (ap₂ (λ x y. x + (y + 0)) eps (ejs ∙ ap jump_size ef)) in
+      let end_is : at + 49 + ks + ps + js + 35 ≡ at + 49 + size + 35 = omega arith in
+      let back_is : at + 49 + ks + ps + js + 30 ≡ at + 49 + size + 30 = omega arith in
+      walk_made n v p i (choice (is_key v a) body nothing) at size o0 o1 o4 o5 size_is
       (h1 ∙ ap (λ x. o0 ++ list_front locals labels n v p at x) end_is)
       visited
       (h5 ∙ ap (λ x. o4 ++ list_back locals labels n v x (at + 12)) back_is)

@@ -1,7 +1,6 @@
 -- Code that was worked out by hand, computed from the definitions.
-use Rattle.std.proofs.Common.{◌≡◌, ℕ, Bool, true, List, [], ◌∷◌, ◌++◌, length, refl, codes}
-use Rattle.bed_lang.specs.declared.word.Name.{Name}
-use Rattle.bed_lang.specs.declared.module.Operand.TheVariants.{Number, Local}
+use Rattle.std.proofs.Common.{◌≡◌, [], ◌∷◌, refl}
+use Rattle.bed_lang.specs.declared.module.Operand.TheVariants.{Number}
 use Rattle.bed_table.specs.Pieces.{sequence}
 use Rattle.bed_table.specs.CodeTable.{entry, answer}
 

@@ -1,12 +1,12 @@
 -- The layout, module by module.
-use Rattle.std.proofs.Common.{◌≡◌, ℕ, suc, ◌+◌, ◌<◌, ◌-◌, ◌^◌, min, Bool, true, false, List, [], ◌∷◌, ◌++◌, map, length, drop, get_or, refl, sym, ◌∙◌, ap, ap₂, subst, arith, append_assoc, add-one, drop-cons, if◌then◌else◌, ◌||◌}
+use Rattle.std.proofs.Common.{◌≡◌, ℕ, suc, ◌+◌, ◌<◌, ◌-◌, ◌^◌, min, List, [], ◌∷◌, ◌++◌, map, length, drop, get_or, refl, sym, ◌∙◌, ap, arith, add-one, drop-cons, if◌then◌else◌, ◌||◌}
 use Rattle.bed_lang.specs.declared.word.Name.{Name}
 use Rattle.bed_lang.specs.declared.module.Signature.{Signature}
 use Rattle.bed_lang.specs.declared.module.Function.{Function}
 use Rattle.bed_lang.specs.declared.module.Import.{Import}
 use Rattle.bed_lang.specs.declared.module.Module.{Module}
 use Rattle.bed_table.specs.Code.{function_piece}
-use Rattle.bed_table.specs.Layout.{Defined, define, defined_in, all_defined, function_size, total_size, sum_of_sizes, code_length, imported, outside_names, exports, is_among, Placed, placed_from}
+use Rattle.bed_table.specs.Layout.{Defined, define, defined_in, all_defined, total_size, sum_of_sizes, code_length, imported, outside_names, exports, is_among}
 
 -- the items from a number on are the one of that number and those behind it
 split : {A : Type 0} (xs : List A) (i : ℕ) (x : A) → i < length xs → x ≡ get_or xs i x → drop i xs ≡ x ∷ drop (i + 1) xs

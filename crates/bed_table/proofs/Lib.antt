@@ -1,6 +1,7 @@
 pub mod SizeLaws
+pub mod SkeletonLaws
 pub mod CodeLemmas
-pub mod LayoutLemmas
-pub mod StepLemmas
+mod LayoutLemmas
+mod StepLemmas
 pub mod ReturnLaws
-pub mod Examples
+mod Examples

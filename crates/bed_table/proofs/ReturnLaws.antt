@@ -1,15 +1,14 @@
 -- Functions whose body is one `return`.
-use Rattle.std.proofs.Common.{◌≡◌, ℕ, ◌+◌, ◌*◌, ◌≤◌, List, [], ◌∷◌, map, length, refl, sym, ◌∙◌, ap, arith}
+use Rattle.std.proofs.Common.{◌≡◌, ◌+◌, ◌*◌, ◌≤◌, List, [], ◌∷◌, map, length, sym, ◌∙◌, ap, arith}
 use Rattle.bed_lang.specs.declared.module.Operand.{Operand}
 use Rattle.bed_lang.specs.declared.module.Operand.TheVariants.{Number, Local, Label}
 use Rattle.bed_lang.specs.declared.statement.StmtKind.{StmtKind-F, fold-roll-StmtKind, Return}
 use Rattle.bed_lang.specs.declared.statement.StmtKind.TheVariants.{rolls-Return}
-use Rattle.bed_lang.specs.declared.module.Function.{Function}
 use Rattle.bed_table.specs.Pieces.{Piece, size_of}
 use Rattle.bed_table.specs.CodeTable.{operand_size, answer}
-use Rattle.bed_table.specs.Code.{kind_row, statement_row, kind_piece, piece, function_piece}
-use Rattle.bed_table.specs.Layout.{Defined, all_defined, total_size, function_size, code_length}
-use Rattle.bed_table.specs.Laws.{OnlyReturns, ReturnsAreSized, EachOnlyReturns, ReturnsAreShort}
+use Rattle.bed_table.specs.Code.{kind_row, statement_row, kind_piece, piece}
+use Rattle.bed_table.specs.Layout.{Defined, all_defined, total_size}
+use Rattle.bed_table.specs.Laws.{ReturnsAreSized, EachOnlyReturns, ReturnsAreShort}
 use Rattle.bed_table.proofs.CodeLemmas.{piece-kind}
 
 pub piece-Return : (a : Operand) → kind_piece (Return a) ≡ answer a

@@ -9,18 +9,16 @@ use Rattle.bed_lang.specs.declared.module.Op.TheVariants.{Add, Sub, Mul, And, Or
 use Rattle.bed_lang.specs.declared.module.Place.{Place}
 use Rattle.bed_lang.specs.declared.module.Test.{Test}
 use Rattle.bed_lang.specs.declared.logic.Assertion.{Assertion}
-use Rattle.bed_lang.specs.declared.module.Function.{Function}
-use Rattle.bed_lang.specs.declared.module.Module.{Module}
-use Rattle.bed_lang.specs.declared.statement.Stmt.{Stmt, Stmt-F, fold-Stmt, ind-Stmt, map-Stmt, roll-Stmt, out-Stmt, fold-roll-Stmt, fold_out-Stmt}
-use Rattle.bed_lang.specs.declared.statement.StmtKind.{StmtKind, StmtKind-F, out-StmtKind, roll-StmtKind, map-StmtKind, fold-StmtKind, fold-roll-StmtKind, fold_out-StmtKind}
+use Rattle.bed_lang.specs.declared.statement.Stmt.{Stmt, ind-Stmt, fold-roll-Stmt}
+use Rattle.bed_lang.specs.declared.statement.StmtKind.{StmtKind, StmtKind-F, map-StmtKind, fold-roll-StmtKind}
 use Rattle.bed_lang.specs.Numbers.{wrap, word_bytes}
-use Rattle.bed_table.specs.Words.{slot, call_area}
-use Rattle.bed_table.specs.Pieces.{Piece, Head, straight, nothing, sequence, falls_after, size_of, bytes_of, heads_of}
-use Rattle.bed_table.specs.CodeTable.{operand_size, into_ecx, into_edx, keep_ecx, entry, assignment, operation, operation_size, computation, load, load_byte, store, store_byte, test_size, test_bytes, jump_bytes, jump_size, jump_if, choice, loop, arguments_size, arguments_bytes, transfer_bytes, call, answer}
+use Rattle.bed_table.specs.Words.{call_area}
+use Rattle.bed_table.specs.Pieces.{Piece, nothing, sequence, size_of, bytes_of, heads_of}
+use Rattle.bed_table.specs.CodeTable.{operand_size, into_ecx, into_edx, keep_ecx, entry, assignment, operation, operation_size, computation, load, load_byte, store, store_byte, test_size, test_bytes, jump_size, jump_if, choice, loop, arguments_size, arguments_bytes, transfer_bytes, call, answer}
 use Rattle.bed_table.specs.ListLoops.{list_loop, finding, walking, not_null, is_key, field_at}
 use Rattle.bed_table.specs.Code.{kind_row, statement_row, kind_piece, piece, body_piece, function_piece}
-use Rattle.bed_table.specs.Layout.{Placed, Defined, placed, placed_from, all_defined, label_address, code_of, code, total_size, code_length}
-use Rattle.bed_table.specs.Laws.{IsSized, RowsKeep, IsSequence, StatementsAreSized, BodiesAreSized, FunctionsAreSized, BodiesAreSequences, CodeIsSized}
+use Rattle.bed_table.specs.Layout.{Defined, placed_from, all_defined, label_address, code_of, total_size}
+use Rattle.bed_table.specs.Laws.{IsSized, RowsKeep, StatementsAreSized, BodiesAreSized, FunctionsAreSized, BodiesAreSequences, CodeIsSized}
 
 pub length-into_ecx : (locals : List Name) (labels : List ℕ → ℕ) (a : Operand) → length (into_ecx locals labels a) ≡ operand_size a
 length-into_ecx locals labels (Number n) = refl

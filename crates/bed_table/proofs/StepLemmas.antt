@@ -6,7 +6,7 @@ use Rattle.bed_lang.specs.Numbers.{wrap, word_bytes}
 use Rattle.bed_table.specs.declared.layout.Item.{Item}
 use Rattle.bed_table.specs.declared.symbols.SymbolTable.{SymbolTable}
 use Rattle.bed_table.specs.Code.{function_piece}
-use Rattle.bed_table.specs.Layout.{Defined, Placed, Label, placed_from, placed, all_defined, total_size, function_size, code_length, code_of, code, address_of, all_labels, label_address, function_label, import_label, imported, outside_names, outside_imports}
+use Rattle.bed_table.specs.Layout.{Defined, Placed, Label, placed_from, placed, all_defined, total_size, code_length, code_of, code, address_of, all_labels, label_address, function_label, import_label, imported, outside_names, outside_imports}
 use Rattle.bed_table.specs.Image.{Symbol, symbol_bytes, table_bytes, function_symbols, symbols_of, import_symbols, symbols, image}
 use Rattle.bed_table.specs.Seen.{defined_of, Adds, IsTable}
 

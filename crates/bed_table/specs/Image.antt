@@ -1,9 +1,8 @@
 -- The bytes of an image file.
-use Rattle.std.specs.Prelude.{ℕ, ◌+◌, ◌-◌, Bool, true, false, List, [], ◌∷◌, ◌++◌, map, length, drop, decimal, codes, if◌then◌else◌}
+use Rattle.std.specs.Prelude.{ℕ, ◌+◌, ◌-◌, List, [], ◌∷◌, ◌++◌, map, length, drop, decimal, codes, if◌then◌else◌}
 use Rattle.bed_lang.specs.declared.word.Name.{Name}
 use Rattle.bed_lang.specs.declared.module.Module.{Module}
 use Rattle.bed_lang.specs.Numbers.{word_bytes}
-use Rattle.bed_table.specs.Pieces.{Head}
 use Rattle.bed_table.specs.Layout.{Placed, placed, heads_at, label_address, outside_imports, code_length, code}
 
 -- kinds: 0 a function, 1 an exported function, 2 a loop head, 3 an import

@@ -6,10 +6,12 @@ use Rattle.bed_lang.specs.declared.module.Function.{Function}
 use Rattle.bed_lang.specs.declared.module.Module.{Module}
 use Rattle.bed_lang.specs.declared.statement.StmtKind.{StmtKind-F, map-StmtKind, Return}
 use Rattle.bed_lang.specs.declared.module.Operand.{Operand}
+use Rattle.bed_lang.specs.Skeletons.{skeleton}
 use Rattle.bed_table.specs.CodeTable.{operand_size}
-use Rattle.bed_table.specs.Pieces.{Piece, Head, sequence}
+use Rattle.bed_table.specs.Pieces.{Piece}
 use Rattle.bed_table.specs.Code.{kind_row, piece, body_piece, function_piece}
-use Rattle.bed_table.specs.Layout.{Defined, Placed, placed, placed_from, all_defined, code_of, code, total_size, code_length}
+use Rattle.bed_table.specs.Layout.{Defined, all_defined, code, code_length}
+use Rattle.bed_table.specs.Image.{image}
 
 -- a piece has as many bytes as it says, wherever it stands and whatever the labels are
 pub record IsSized (p : Piece) : Type 0 where
@@ -58,3 +60,10 @@ EachOnlyReturns (d ∷ ds) = OnlyReturns d.function × EachOnlyReturns ds
 -- modules of such functions have at most 22 bytes of code for each function
 abbrev pub ReturnsAreShort : Type 0
 ReturnsAreShort = (modules : List Module) → EachOnlyReturns (all_defined modules) → code_length modules ≤ 22 * length (all_defined modules)
+
+-- an image reads nothing that is there for proofs alone: modules have the image, and the code, of their skeletons
+abbrev pub ImagesReadSkeletons : Type 0
+ImagesReadSkeletons = (modules : List Module) (base : ℕ) (imports : List (Name × ℕ)) → image (map skeleton modules) base imports ≡ image modules base imports
+
+abbrev pub CodeReadsSkeletons : Type 0
+CodeReadsSkeletons = (modules : List Module) (base : ℕ) (imports : List (Name × ℕ)) → code (map skeleton modules) base imports ≡ code modules base imports

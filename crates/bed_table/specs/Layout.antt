@@ -1,12 +1,10 @@
 -- Where functions stand: modules in their order, functions in the order of the text, with nothing between them, from a base.
-use Rattle.std.specs.Prelude.{ℕ, ◌+◌, Bool, true, false, ◌&&◌, ◌||◌, List, [], ◌∷◌, ◌++◌, map, bytes_eq, if◌then◌else◌}
+use Rattle.std.specs.Prelude.{ℕ, ◌+◌, Bool, false, ◌&&◌, ◌||◌, List, [], ◌∷◌, ◌++◌, map, bytes_eq, if◌then◌else◌}
 use Rattle.bed_lang.specs.declared.word.Name.{Name}
-use Rattle.bed_lang.specs.declared.logic.Assertion.{Assertion}
-use Rattle.bed_lang.specs.declared.module.Import.{Import}
 use Rattle.bed_lang.specs.declared.module.Signature.{Signature}
 use Rattle.bed_lang.specs.declared.module.Function.{Function}
 use Rattle.bed_lang.specs.declared.module.Module.{Module}
-use Rattle.bed_table.specs.Pieces.{Piece, Head}
+use Rattle.bed_table.specs.Pieces.{Head}
 use Rattle.bed_table.specs.Code.{locals_of, function_piece}
 
 -- a function with its locals, the arguments first

@@ -7,4 +7,4 @@ pub mod Layout
 pub mod Image
 pub mod Laws
 pub mod Seen
-pub mod ListParts
+pub mod CodeParts

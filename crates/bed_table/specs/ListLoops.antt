@@ -1,21 +1,14 @@
 -- The statements that `find` and `walk` stand for. Trees that the expansion makes have place 0; names, operands, sequences and
 -- terms of the statement keep theirs.
-use Rattle.std.specs.Prelude.{ℕ, List, [], ◌∷◌, ◌++◌, codes}
+use Rattle.std.specs.Prelude.{ℕ, List, [], ◌∷◌, ◌++◌}
 use Rattle.bed_lang.specs.declared.word.Name.{Name}
-use Rattle.bed_lang.specs.declared.word.Sort.{Sort}
 use Rattle.bed_lang.specs.declared.word.Sort.TheVariants as sort
-use Rattle.bed_lang.specs.declared.word.Var.{Var}
 use Rattle.bed_lang.specs.declared.word.Var.TheVariants as var
 use Rattle.bed_lang.specs.declared.word.Word.{Word}
 use Rattle.bed_lang.specs.declared.word.Word as word
 use Rattle.bed_lang.specs.declared.word.Seq.{Seq}
 use Rattle.bed_lang.specs.declared.word.Seq as seq
-use Rattle.bed_lang.specs.declared.logic.Arg.{Arg}
-use Rattle.bed_lang.specs.declared.logic.Arg.TheVariants as arg
-use Rattle.bed_lang.specs.declared.logic.Pure.{Pure}
 use Rattle.bed_lang.specs.declared.logic.Pure.TheVariants as pure
-use Rattle.bed_lang.specs.declared.logic.Atom.{Atom}
-use Rattle.bed_lang.specs.declared.logic.Atom.TheVariants as atom
 use Rattle.bed_lang.specs.declared.logic.Term.{Term}
 use Rattle.bed_lang.specs.declared.logic.Term.TheVariants as term
 use Rattle.bed_lang.specs.declared.logic.Assertion.{Assertion}
@@ -24,6 +17,7 @@ use Rattle.bed_lang.specs.declared.module.Operand.TheVariants as operand
 use Rattle.bed_lang.specs.declared.module.Rel.TheVariants as rel
 use Rattle.bed_lang.specs.declared.module.Test.{Test}
 use Rattle.bed_lang.specs.declared.module.Place.{Place}
+use Rattle.bed_lang.specs.Prelude.{segment}
 use Rattle.bed_table.specs.Pieces.{Piece, nothing, sequence}
 use Rattle.bed_table.specs.CodeTable.{assignment, load, choice, loop}
 
@@ -38,10 +32,6 @@ abbrev pub word_of : Operand → Word
 word_of (operand.Number n) = word.Number n
 word_of (operand.Local x) = word_named x
 word_of (operand.Label f) = word.Label f
-
--- lseg(from, to, s)
-abbrev pub segment : Word → Word → Seq → Term
-segment from to s = term.Atom (atom.Pred (record { bytes = codes "lseg"; at = 0 }) (arg.Word 0 from ∷ arg.Word 0 to ∷ arg.Seq 0 s ∷ []))
 
 -- the fact `s == app(u, t)`
 abbrev pub parted : Seq → Name → Name → Term

@@ -1,9 +1,10 @@
 //! Where the heads of loops stand.
-ghost use Rattle.std.specs.Prelude.{◌≡◌, ◌+◌, ◌≤◌, ◌++◌, map, OnOk};
+ghost use Rattle.std.specs.Prelude.{◌≡◌, ◌+◌, ◌≤◌, ◌∷◌, ◌++◌, map, OnOk};
 ghost use Rattle.bed_table.specs.Code.{kind_piece, body_piece};
 
 use crate::size::{
-    body_falls, jump_size, operand_size, small_body_size, small_kind_size, test_size,
+    LIST_FRONT, LIST_HEAD, body_falls, jump_size, key_test_size, small_body_size, small_kind_size,
+    test_size,
 };
 use bed_lang::{Stmt, StmtKind};
 use std::alloc::AllocError;
@@ -28,21 +29,32 @@ pub(crate) fn push_kind_heads(
             push_heads(out, no_at, no)
         }
         StmtKind::While { test, body, .. } => {
-            let body_at = at + test_size(test);
-            out.push(at)?;
-            push_heads(out, body_at, body.as_slice())
+            push_loop_heads(out, at, at + test_size(test), body.as_slice())
         }
         StmtKind::Find { key, body, .. } => {
-            let body_at = at + 63 + operand_size(key);
-            out.push(at + 12)?;
-            push_heads(out, body_at, body.as_slice())
+            let body_at = at + LIST_FRONT + key_test_size(key);
+            push_loop_heads(out, at + LIST_HEAD, body_at, body.as_slice())
         }
         StmtKind::Walk { body, .. } => {
-            out.push(at + 12)?;
-            push_heads(out, at + 49, body.as_slice())
+            push_loop_heads(out, at + LIST_HEAD, at + LIST_FRONT, body.as_slice())
         }
         _ => Ok(()),
     }
+}
+
+// Appends a loop's head and those in its body.
+#[cycle(heads)]
+fn push_loop_heads(
+    out: &mut Vec<u64>,
+    head: u64,
+    body_at: u64,
+    body: &[Stmt],
+) -> Result<(), AllocError>
+    requires { body_at + (body_piece body.now).size ≤ 4294967296 }
+    ensures { OnOk result (out.new.items ≡ out.old.items ++ head ∷ map (λ h. h.address) ((body_piece body.now).heads body_at)) }
+{
+    out.push(head)?;
+    push_heads(out, body_at, body)
 }
 
 // Appends those of statements, the first of which begins at `at`.

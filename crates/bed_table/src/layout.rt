@@ -5,7 +5,7 @@ ghost use Rattle.bed_table.specs.Layout as layout;
 ghost use Rattle.bed_table.specs.Seen.{label_of, defined_of};
 
 use crate::scope::Known;
-use crate::size::{body_size, small_body_size};
+use crate::size::{ENTRY, body_size, small_body_size};
 use bed_lang::{Function, Import, Module, Name, Signature};
 use std::alloc::{AllocError, Global};
 
@@ -33,7 +33,7 @@ pub(crate) fn function_size(function: &Function) -> u64
     requires { (function_piece function.now).size < 2 ^ 64 }
     ensures { result ≡ (function_piece function.now).size }
 {
-    6 + small_body_size(function.body.as_slice())
+    ENTRY + small_body_size(function.body.as_slice())
 }
 
 // Appends the functions of a module.
@@ -164,7 +164,7 @@ fn module_size(before: u64, functions: &[Function]) -> u64
 {
     let mut size = before;
     for function in functions {
-        size = size.saturating_add(body_size(function.body.as_slice()).saturating_add(6));
+        size = size.saturating_add(body_size(function.body.as_slice()).saturating_add(ENTRY));
     }
     size
 }

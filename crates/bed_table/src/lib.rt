@@ -4,7 +4,7 @@
 mod build;
 mod code;
 mod heads;
-mod laws;
+pub mod laws;
 mod layout;
 mod put;
 mod rows;
@@ -13,5 +13,4 @@ mod size;
 mod symbols;
 
 pub use build::image;
-pub use laws::size_laws;
 pub use layout::code_length;

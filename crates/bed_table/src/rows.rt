@@ -5,11 +5,11 @@ ghost use Rattle.bed_lang.specs.Numbers.{word_bytes};
 ghost use Rattle.bed_table.specs.Words.{displacement as displacement_of};
 ghost use Rattle.bed_table.specs.CodeTable as table;
 ghost use Rattle.bed_table.specs.ListLoops.{not_null, is_key, field_at};
-ghost use Rattle.bed_table.specs.ListParts.{list_front, list_back};
+ghost use Rattle.bed_table.specs.CodeParts.{list_front, list_back};
 
 use crate::put::{put_code, put_word};
 use crate::scope::Scope;
-use crate::size::{operand_size, small_arguments_size, test_size};
+use crate::size::{JUMP, LIST_HEAD, key_test_size, operand_size, small_arguments_size, test_size};
 use bed_lang::{Name, Op, Operand, Place, Rel, Test};
 use std::alloc::AllocError;
 
@@ -27,10 +27,10 @@ fn jump_on_false(rel: Rel) -> u8
     ensures { result ≡ table.jump_on_false rel }
 {
     match rel {
-        Rel::Equal => 0x85,
-        Rel::Unequal => 0x84,
-        Rel::Less => 0x83,
-        Rel::AtMost => 0x87,
+        Rel::Equal => 0x85, // jne
+        Rel::Unequal => 0x84, // je
+        Rel::Less => 0x83, // jae
+        Rel::AtMost => 0x87, // ja
     }
 }
 
@@ -40,6 +40,7 @@ fn put_comparison(out: &mut Vec<u8>, rel: Rel, next: u64, target: u64) -> Result
     requires target_is_address { target ≤ 4294967296 }
     ensures { OnOk result (out.new.items ≡ out.old.items ++ (0x3B ∷ 0xCA ∷ 0x0F ∷ table.jump_on_false rel ∷ word_bytes (displacement_of next target))) }
 {
+    // cmp ecx, edx; jcc
     put_code(
         out,
         &[0x3B, 0xCA, 0x0F, jump_on_false(rel)],
@@ -53,7 +54,8 @@ pub(crate) fn put_jump(out: &mut Vec<u8>, at: u64, target: u64) -> Result<(), Al
     requires target_is_address { target ≤ 4294967296 }
     ensures { OnOk result (out.new.items ≡ out.old.items ++ table.jump_bytes at target) }
 {
-    put_code(out, &[0xE9], displacement(at + 5, target))
+    // jmp
+    put_code(out, &[0xE9], displacement(at + JUMP, target))
 }
 
 // Appends a jump, where control comes to it.
@@ -79,6 +81,7 @@ fn put_operation(out: &mut Vec<u8>, op: Op) -> Result<(), AllocError>
     ensures { OnOk result (out.new.items ≡ out.old.items ++ table.operation op) }
 {
     match op {
+        // add, sub, imul, and, or, xor ecx, edx
         Op::Add => out.extend_from_slice(&[0x03, 0xCA]),
         Op::Sub => out.extend_from_slice(&[0x2B, 0xCA]),
         Op::Mul => out.extend_from_slice(&[0x0F, 0xAF, 0xCA]),
@@ -95,6 +98,7 @@ impl Scope<'_> {
     fn put_local_into_ecx(&self, out: &mut Vec<u8>, name: &Name) -> Result<(), AllocError>
         ensures { OnOk result (out.new.items ≡ out.old.items ++ table.into_ecx (names_in self.now) (labels_in self.now) (operand.Local name.now)) }
     {
+        // mov ecx, [ebp+slot]
         put_code(out, &[0x8B, 0x8D], self.slot(name))
     }
 
@@ -102,6 +106,7 @@ impl Scope<'_> {
         ensures { OnOk result (out.new.items ≡ out.old.items ++ table.into_ecx (names_in self.now) (labels_in self.now) a.now) }
     {
         match a {
+            // mov ecx, number; mov ecx, [ebp+slot]; mov ecx, address
             Operand::Number(n) => put_code(out, &[0xB9], *n as u64),
             Operand::Local(x) => self.put_local_into_ecx(out, x),
             Operand::Label(f) => put_code(out, &[0xB9], self.label(f)),
@@ -112,6 +117,7 @@ impl Scope<'_> {
         ensures { OnOk result (out.new.items ≡ out.old.items ++ table.into_edx (names_in self.now) (labels_in self.now) a.now) }
     {
         match a {
+            // mov edx, number; mov edx, [ebp+slot]; mov edx, address
             Operand::Number(n) => put_code(out, &[0xBA], *n as u64),
             Operand::Local(x) => put_code(out, &[0x8B, 0x95], self.slot(x)),
             Operand::Label(f) => put_code(out, &[0xBA], self.label(f)),
@@ -122,6 +128,7 @@ impl Scope<'_> {
     fn put_keep(&self, out: &mut Vec<u8>, x: &Name) -> Result<(), AllocError>
         ensures { OnOk result (out.new.items ≡ out.old.items ++ table.keep_ecx (names_in self.now) x.now) }
     {
+        // mov [ebp+slot], ecx
         put_code(out, &[0x89, 0x8D], self.slot(x))
     }
 
@@ -184,6 +191,7 @@ impl Scope<'_> {
         ensures { OnOk result (out.new.items ≡ out.old.items ++ (table.load x.now place.now).bytes (names_in self.now) (labels_in self.now) 0) }
     {
         self.put_into_ecx(out, &place.base)?;
+        // mov ecx, [ecx+disp]
         self.put_access(out, &[0x8B, 0x89], place.disp, x)
     }
 
@@ -198,6 +206,7 @@ impl Scope<'_> {
         ensures { OnOk result (out.new.items ≡ out.old.items ++ (table.load x.now (field_at node.now disp)).bytes (names_in self.now) (labels_in self.now) 0) }
     {
         self.put_local_into_ecx(out, node)?;
+        // mov ecx, [ecx+disp]
         self.put_access(out, &[0x8B, 0x89], disp, x)
     }
 
@@ -210,6 +219,7 @@ impl Scope<'_> {
         ensures { OnOk result (out.new.items ≡ out.old.items ++ (table.load_byte x.now place.now).bytes (names_in self.now) (labels_in self.now) 0) }
     {
         self.put_into_ecx(out, &place.base)?;
+        // movzx ecx, byte [ecx+disp]
         self.put_access(out, &[0x0F, 0xB6, 0x89], place.disp, x)
     }
 
@@ -223,6 +233,7 @@ impl Scope<'_> {
     {
         self.put_into_ecx(out, &place.base)?;
         self.put_into_edx(out, b)?;
+        // mov [ecx+disp], edx
         put_code(out, &[0x89, 0x91], place.disp as u64)
     }
 
@@ -236,6 +247,7 @@ impl Scope<'_> {
     {
         self.put_into_ecx(out, &place.base)?;
         self.put_into_edx(out, b)?;
+        // mov byte [ecx+disp], dl
         put_code(out, &[0x88, 0x91], place.disp as u64)
     }
 
@@ -269,6 +281,7 @@ impl Scope<'_> {
         ensures { OnOk result (out.new.items ≡ out.old.items ++ table.test_bytes (names_in self.now) (labels_in self.now) (not_null node.now) at target) }
     {
         self.put_local_into_ecx(out, node)?;
+        // mov edx, 0
         put_code(out, &[0xBA], 0)?;
         put_comparison(out, Rel::Unequal, at + 19, target)
     }
@@ -286,7 +299,7 @@ impl Scope<'_> {
         requires target_is_address { target ≤ 4294967296 }
         ensures { OnOk result (out.new.items ≡ out.old.items ++ table.test_bytes (names_in self.now) (labels_in self.now) (is_key value.now key.now) at target) }
     {
-        let next = at + 14 + operand_size(key);
+        let next = at + key_test_size(key);
         self.put_local_into_ecx(out, value)?;
         self.put_into_edx(out, key)?;
         put_comparison(out, Rel::Equal, next, target)
@@ -298,6 +311,7 @@ impl Scope<'_> {
         let mut slot = ((self.call_area() + 4) % 4294967296) as u32;
         for a in arguments {
             self.put_into_ecx(out, a)?;
+            // mov [ebp+slot], ecx
             put_code(out, &[0x89, 0x8D], slot as u64)?;
             slot = slot.wrapping_add(4);
         }
@@ -308,9 +322,11 @@ impl Scope<'_> {
     fn put_transfer(&self, out: &mut Vec<u8>, x: &Name, back: u64) -> Result<(), AllocError>
         ensures { OnOk result (out.new.items ≡ out.old.items ++ table.transfer_bytes (names_in self.now) x.now back) }
     {
+        // add ebp, area; mov esi, back; jmp edx
         put_code(out, &[0x81, 0xC5], self.call_area())?;
         put_code(out, &[0xBE], back)?;
         out.extend_from_slice(&[0xFF, 0xE2])?;
+        // sub ebp, area; mov [ebp+slot], eax
         put_code(out, &[0x81, 0xED], self.call_area())?;
         put_code(out, &[0x89, 0x85], self.slot(x))
     }
@@ -336,6 +352,7 @@ impl Scope<'_> {
         ensures { OnOk result (out.new.items ≡ out.old.items ++ (table.answer a.now).bytes (names_in self.now) (labels_in self.now) 0) }
     {
         self.put_into_ecx(out, a)?;
+        // mov eax, ecx; mov esi, [ebp+0]; jmp esi
         put_code(out, &[0x8B, 0xC1, 0x8B, 0xB5], 0)?;
         out.extend_from_slice(&[0xFF, 0xE6])
     }
@@ -355,7 +372,7 @@ impl Scope<'_> {
         ensures { OnOk result (out.new.items ≡ out.old.items ++ list_front (names_in self.now) (labels_in self.now) node.now value.now list.now at end) }
     {
         self.put_copy(out, node, list)?;
-        self.put_null_test(out, node, at + 12, end)?;
+        self.put_null_test(out, node, at + LIST_HEAD, end)?;
         self.put_field(out, value, node, 0)
     }
 

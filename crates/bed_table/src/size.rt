@@ -1,9 +1,22 @@
 //! How long code is. Sums that pass a u64 stay at its maximum.
-ghost use Rattle.std.specs.Prelude.{◌≡◌, ◌^◌, ◌-◌, ◌<◌, min};
+ghost use Rattle.std.specs.Prelude.{◌≡◌, ◌+◌, ◌^◌, ◌-◌, ◌<◌, min};
 ghost use Rattle.bed_table.specs.CodeTable.{operand_size as size_of_operand, operation_size as size_of_operation, test_size as size_of_test, arguments_size as size_of_arguments};
 ghost use Rattle.bed_table.specs.Code.{kind_piece, body_piece};
 
 use bed_lang::{Op, Operand, Stmt, StmtKind, Test};
+
+// A jump's bytes.
+pub(crate) const JUMP: u64 = 5;
+// The bytes of a loop over a list before its head, and before what is done at a node.
+pub(crate) const LIST_HEAD: u64 = 12;
+
+pub(crate) const LIST_FRONT: u64 = 49;
+// The bytes that go on to the next node, without the jump back to the head and with it.
+pub(crate) const LIST_STEP: u64 = 30;
+
+pub(crate) const LIST_BACK: u64 = 35;
+// The bytes of the entry of a function.
+pub(crate) const ENTRY: u64 = 6;
 
 pub(crate) fn operand_size(a: &Operand) -> u64
     ensures { result ≡ size_of_operand a.now }
@@ -30,10 +43,17 @@ pub(crate) fn test_size(test: &Test) -> u64
     operand_size(&test.left) + operand_size(&test.right) + 8
 }
 
+// The test of a value against a key.
+pub(crate) fn key_test_size(key: &Operand) -> u64
+    ensures { result ≡ size_of_operand key.now + 14 }
+{
+    operand_size(key) + 14
+}
+
 pub(crate) fn jump_size(falls: bool) -> u64
     ensures { result ≡ Rattle.bed_table.specs.CodeTable.jump_size falls }
 {
-    if falls { 5 } else { 0 }
+    if falls { JUMP } else { 0 }
 }
 
 pub(crate) fn arguments_size(arguments: &[Operand]) -> u64
@@ -106,10 +126,15 @@ pub(crate) fn kind_size(kind: &StmtKind) -> u64
         StmtKind::Return(a) => operand_size(a) + 10,
         StmtKind::Hint(_) => 0,
         StmtKind::Find { key, body, .. } => {
-            let own = 98 + operand_size(key) + jump_size(body_falls(body.as_slice()));
+            let own = LIST_FRONT
+                + key_test_size(key)
+                + jump_size(body_falls(body.as_slice()))
+                + LIST_BACK;
             body_size(body.as_slice()).saturating_add(own)
         }
-        StmtKind::Walk { body, .. } => body_size(body.as_slice()).saturating_add(84),
+        StmtKind::Walk { body, .. } => {
+            body_size(body.as_slice()).saturating_add(LIST_FRONT + LIST_BACK)
+        },
     }
 }
 

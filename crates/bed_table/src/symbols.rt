@@ -8,6 +8,7 @@ use crate::heads::push_heads;
 use crate::layout::{Item, function_size};
 use crate::put::put_word;
 use crate::scope::{Known, address_of};
+use crate::size::ENTRY;
 use bed_lang::Name;
 use std::alloc::{AllocError, Global};
 
@@ -73,7 +74,7 @@ impl SymbolTable {
     {
         let name = item.function.name.bytes.as_slice();
         let mut heads = Vec::new(alloc);
-        push_heads(&mut heads, at + 6, item.function.body.as_slice())?;
+        push_heads(&mut heads, at + ENTRY, item.function.body.as_slice())?;
         self.put(u8::from(item.function.exported), at, name)?;
         self.put_loops(alloc, name, heads.as_slice())
     }

@@ -1,26 +1,13 @@
 //! Images and lengths of whole texts. Their bytes were made by hand and by another program, from the rows of the table alone.
 use bed_lang::{List, Module, Name};
 use bed_read::read_module;
-use bed_table::{code_length, image, size_laws};
+use bed_table::laws::{sizes, skeletons};
+use bed_table::{code_length, image};
 use std::alloc::{AllocError, Global};
 use std::test::Fail;
 
-/// Texts with the hexadecimal digits of their images at base 0x00400000.
-const IMAGES: [(&[u8], &[u8]); 12] = [
-    // a number
-    (
-        b"module m; signature S() pre emp post [result = 7]; export function seven: S { return \
-          7; }",
-        b"42494D31000040001500000001000000010000400005736576656E89B500000000B9070000008BC18BB5\
-          00000000FFE6",
-    ),
-    // an argument
-    (
-        b"module m; signature I(x) pre emp post [result = x]; export function id: I { return x; \
-          }",
-        b"42494D31000040001600000001000000010000400002696489B5000000008B8D040000008BC18BB50000\
-          0000FFE6",
-    ),
+/// Texts with the hexadecimal digits of their images at base 0x00400000, of which the program links none yet.
+const IMAGES: [(&[u8], &[u8]); 10] = [
     // the larger of two numbers
     (
         b"module m; signature M(a, b) pre emp post emp; export function max: M { if a < b { \
@@ -240,13 +227,52 @@ fn has_image(
     Ok(got.as_slice() == wanted)
 }
 
+fn have_images(
+    alloc: Global,
+    rows: &[(&[u8], &[u8])],
+    imports: &[(Name, u32)],
+) -> Result<bool, Fail> {
+    for (text, wanted) in rows {
+        if !has_image(alloc, *text, imports, *wanted)? {
+            return Ok(false);
+        }
+    }
+    Ok(true)
+}
+
+fn has_length(alloc: Global, texts: &[&[u8]], length: u64) -> Result<bool, Fail> {
+    let mut modules = List::new(alloc);
+    for text in texts {
+        modules.push(read(alloc, *text)?)?;
+    }
+    Ok(code_length(modules.as_slice()) == length)
+}
+
+fn have_lengths(alloc: Global, rows: &[(&[&[u8]], u64)]) -> Result<bool, Fail> {
+    for (texts, length) in rows {
+        if !has_length(alloc, *texts, *length)? {
+            return Ok(false);
+        }
+    }
+    Ok(true)
+}
+
+fn are_alike(alloc: Global, rows: &[(&[u8], &[u8])]) -> Result<bool, Fail> {
+    for (short, long) in rows {
+        let one = built(alloc, *short, &[])?;
+        let other = built(alloc, *long, &[])?;
+        if one.as_slice() != other.as_slice() {
+            return Ok(false);
+        }
+    }
+    Ok(true)
+}
+
 #[test]
 fn texts_have_their_images(rt: HostRuntime) -> Result<(), Fail> {
-    let alloc = rt.alloc();
-    size_laws();
-    for (text, wanted) in &IMAGES {
-        assert!(rt; has_image(alloc, *text, &[], *wanted)?);
-    }
+    sizes();
+    skeletons();
+    assert!(rt; have_images(rt.alloc(), &IMAGES, &[])?);
     Ok(())
 }
 
@@ -257,33 +283,18 @@ fn an_import_stands_at_its_address(rt: HostRuntime) -> Result<(), Fail> {
         bytes: List::from_slice(alloc, b"say")?,
         at: 0,
     };
-    let imports = [(say, 0x1000)];
-    for (text, wanted) in &IMPORTING {
-        assert!(rt; has_image(alloc, *text, &imports, *wanted)?);
-    }
+    assert!(rt; have_images(alloc, &IMPORTING, &[(say, 0x1000)])?);
     Ok(())
 }
 
 #[test]
 fn texts_have_their_lengths(rt: HostRuntime) -> Result<(), Fail> {
-    let alloc = rt.alloc();
-    for (texts, length) in &LENGTHS {
-        let mut modules = List::new(alloc);
-        for text in *texts {
-            modules.push(read(alloc, *text)?)?;
-        }
-        assert_eq!(rt; code_length(modules.as_slice()), *length);
-    }
+    assert!(rt; have_lengths(rt.alloc(), &LENGTHS)?);
     Ok(())
 }
 
 #[test]
 fn loops_over_lists_have_the_code_of_their_statements(rt: HostRuntime) -> Result<(), Fail> {
-    let alloc = rt.alloc();
-    for (short, long) in &ALIKE {
-        let one = built(alloc, *short, &[])?;
-        let other = built(alloc, *long, &[])?;
-        assert_eq!(rt; one.as_slice(), other.as_slice());
-    }
+    assert!(rt; are_alike(rt.alloc(), &ALIKE)?);
     Ok(())
 }

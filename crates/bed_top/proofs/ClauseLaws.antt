@@ -1,5 +1,5 @@
 -- What a run of the top call gives for each answer.
-use Rattle.std.proofs.Common.{◌≡◌, ℕ, ◌≤◌, ◌<◌, ◌⊎◌, inl, inr, Bool, true, false, IsTrue, List, [], ◌∷◌, length, map, Option, Some, None, Result, Ok, Err, refl, sym, ◌∙◌, ap, subst, arith, if◌then◌else◌}
+use Rattle.std.proofs.Common.{◌≡◌, ℕ, ◌≤◌, ◌<◌, ◌⊎◌, inl, inr, Bool, true, false, IsTrue, List, [], ◌∷◌, ◌++◌, append_assoc, length, map, codes, Option, Some, None, Result, Ok, Err, refl, sym, ◌∙◌, ap, subst, arith, if◌then◌else◌}
 use Rattle.std.specs.List.{list_any}
 use Rattle.bed_io.specs.Counts.{Rose}
 use Rattle.bed_io.specs.Files.{FilesState, SameFiles, bytes_of, up_to}
@@ -12,6 +12,9 @@ use Rattle.bed_names.specs.declared.error.NameError.{NameError}
 use Rattle.bed_names.specs.declared.error.NameError.TheVariants as name
 use Rattle.bed_read.specs.declared.whole.ReadError.{ReadError}
 use Rattle.bed_read.specs.declared.whole.ReadError.TheVariants as error
+use Rattle.bed_lang.specs.Numbers.{word_bytes}
+use Rattle.bed_table.specs.Image.{image, symbols, table_bytes}
+use Rattle.bed_table.specs.Layout.{code, code_length}
 use Rattle.bed_sat.specs.Linking.{linked}
 use Rattle.bed_sat.specs.Runs.{Outside}
 use Rattle.bed_sat.specs.Sound.{IsOutsideOf, IsSound}
@@ -22,10 +25,11 @@ use Rattle.bed_words.specs.declared.command.CommandError.TheVariants as wrong
 use Rattle.bed_words.specs.declared.command.Job.{Job}
 use Rattle.bed_words.specs.Usage.{IsUsage, PassesLimit}
 use Rattle.bed_words.proofs.CommandLaws.{one_answer, one_command}
-use Rattle.bed_top.specs.Causes.{most_text, is_long, most_functions, function_count, unbuilt_file, unbuilt_word, broken_status, word_at, Asks, AreModules, Due, no_command, passes_limit, unbuilt_command, asks_link, Building, not_all_built, one_built, Scoping, not_scoped, all_scoped, Counting, too_many, few_enough, Reading, not_read, all_read, Measuring, too_long, all_short, read_status, name_status}
+use Rattle.bed_top.proofs.ImageLaws.{resolved_have_the_image}
+use Rattle.bed_top.specs.Causes.{most_text, is_long, most_functions, function_count, first_misnamed, unbuilt_file, unbuilt_word, broken_status, word_at, Asks, AreModules, Due, no_command, passes_limit, unbuilt_command, asks_link, Building, not_all_built, one_built, Scoping, not_scoped, all_scoped, Counting, too_many, few_enough, Reading, not_read, all_read, Measuring, too_long, all_short, read_status, name_status}
 use Rattle.bed_top.specs.Files.{HasRead, Leaves, LeavesBut, KeepsCalm}
 use Rattle.bed_top.specs.Lines.{Reports, given, short, failed, both}
-use Rattle.bed_top.specs.Promises.{Ran, contents, Links, Headline, NoFault, Exactly, Yields, Words, Faults}
+use Rattle.bed_top.specs.Promises.{Ran, HasCode, contents, Links, Headline, NoFault, Exactly, Yields, Words, Faults}
 use Rattle.bed_top.specs.Returns.{module_is_built, broken_condition}
 use Rattle.bed_top.specs.Work.{base, IsDue, Caused}
 use Rattle.bed_top.proofs.DueLaws.{one_due, measured_whole}
@@ -49,6 +53,7 @@ whole_measuring job texts old told read = measured_whole job texts (contents old
 pub record IsLinkable (job : Job) (texts : List (List ℕ)) : Type 0 where
   pub linkable : Module
   pub read : AreModules texts (linkable ∷ [])
+  pub scoped : first_misnamed 0 (linkable ∷ []) ≡ None
   pub built : module_is_built linkable ≡ true
   pub stays : resolved linkable ≡ linkable
   pub kept : broken_condition linkable ≡ None
@@ -147,18 +152,20 @@ due_usage words job texts s i (unbuilt_command c what a l b) is = absurd (cc)
 due_usage words job texts s i (asks_link t asks h) is = let no : true ≡ false = ap is_usage (sym is) ∙ no_usage job texts t h in absurd (cc)
 
 module _ (job : Job) (texts : List (List ℕ)) where
-  built_done : (ms : List Module) → AreModules texts ms → function_count ms ≤ most_functions → list_any is_long texts ≡ false → (s : Status)
+  built_done : (ms : List Module) → AreModules texts ms → function_count ms ≤ most_functions → list_any is_long texts ≡ false → first_misnamed 0 ms ≡ None
+      → (s : Status)
       → Building job (map resolved ms) s → s ≡ Done → IsLinkable job texts
-  built_done ms are few no_long s (not_all_built what a) is = absurd (cc)
-  built_done [] are few no_long s (one_built m none one) is = absurd (cc)
-  built_done (a ∷ b ∷ bs) are few no_long s (one_built m none one) is = absurd (cc)
-  built_done (a ∷ []) are few no_long s (one_built m none one) is =
+  built_done ms are few no_long right s (not_all_built what a) is = absurd (cc)
+  built_done [] are few no_long right s (one_built m none one) is = absurd (cc)
+  built_done (a ∷ b ∷ bs) are few no_long right s (one_built m none one) is = absurd (cc)
+  built_done (a ∷ []) are few no_long right s (one_built m none one) is =
       let scoped : resolved a ≡ m = cc in
       let whole : module_is_built (resolved a) ≡ true = by_test (module_is_built (resolved a)) refl none in
       let same : resolved a ≡ a = module_resolved a whole in
       record {
         linkable = a;
         read = are;
+        scoped = right;
         built = subst (λ (x : Module). module_is_built x ≡ true) same whole;
         stays = same;
         kept = ap (λ (x : Module). broken_condition x) (sym same ∙ scoped) ∙ by_condition (broken_condition m) refl is;
@@ -181,7 +188,7 @@ module _ (job : Job) (texts : List (List ℕ)) where
     where
       by_scoping : (ms : List Module) → AreModules texts ms → function_count ms ≤ most_functions → (s : Status) → Scoping job texts ms s → s ≡ Done → IsLinkable job texts
       by_scoping ms are few s (not_scoped file e a) is = absurd (names_not_done file (word_at texts file) e is)
-      by_scoping ms are few s (all_scoped u none h) is = built_done ms are few no_long s h is
+      by_scoping ms are few s (all_scoped u none h) is = built_done ms are few no_long none s h is
 
       by_counting : (ms : List Module) → AreModules texts ms → (s : Status) → Counting job texts ms s → s ≡ Done → IsLinkable job texts
       by_counting ms are s (too_many a) is = absurd (cc)
@@ -197,6 +204,16 @@ asks_done words job texts s (passes_limit w a) is = absurd (cc)
 asks_done words job texts s (unbuilt_command c what a l u) is = absurd (cc)
 asks_done words job texts s (asks_link u asks h) is = (asks, linkable job texts s h is)
 
+-- the code stands at the end of an image
+image_has_code : (ms : List Module) → HasCode (image ms base []) (linked ms base [])
+image_has_code ms = (
+  codes "BIM1" ++ (word_bytes base ++ (word_bytes (code_length ms) ++ (word_bytes (length (symbols ms base [])) ++ table_bytes (symbols ms base [])))),
+  sym (append_assoc (codes "BIM1") (word_bytes base ++ (word_bytes (code_length ms) ++ (word_bytes (length (symbols ms base [])) ++ table_bytes (symbols ms base [])))) (code ms base [])
+      ∙ ap (λ bytes. codes "BIM1" ++ bytes) (append_assoc (word_bytes base) (word_bytes (code_length ms) ++ (word_bytes (length (symbols ms base [])) ++ table_bytes (symbols ms base []))) (code ms base [])
+      ∙ ap (λ bytes. word_bytes base ++ bytes) (append_assoc (word_bytes (code_length ms)) (word_bytes (length (symbols ms base [])) ++ table_bytes (symbols ms base [])) (code ms base [])
+      ∙ ap (λ bytes. word_bytes (code_length ms) ++ bytes) (append_assoc (word_bytes (length (symbols ms base []))) (table_bytes (symbols ms base [])) (code ms base []))))),
+)
+
 module _ (words : List (List ℕ)) (old new : FilesState) (sink_old sink_new : SinkState) (result : Status) (ran : Ran words old new sink_old sink_new result) where
   -- what a run that is done promises
   links_of : Caused words ran.job ran.texts old new Done → IsTrue old.tells → Links words old new
@@ -209,12 +226,16 @@ module _ (words : List (List ℕ)) (old new : FilesState) (sink_old sink_new : S
       (sym (ap (list_any is_long) (told_texts ran.job ran.texts old told read) ∙ cut_texts (contents old ran.job)) ∙ l.no_long) in
       let same : h.1.0 ≡ l.linkable ∷ [] = one_list ran.texts h.1.0 (l.linkable ∷ []) h.1.1 l.read in
       let scoped : map resolved h.1.0 ≡ l.linkable ∷ [] = ap (map resolved) same ∙ ap (λ (m : Module). m ∷ []) l.stays in
+      let as_scoped : map resolved h.1.0 ≡ h.1.0 = scoped ∙ sym same in
       record {
         job = ran.job;
         asked = done.0;
         modules = h.1.0;
         read = subst (λ ts. AreModules ts h.1.0) whole h.1.1;
-        written = h.1.2 told;
+        scoped = ap (first_misnamed 0) same ∙ l.scoped;
+        written = h.1.2 told ∙ ap (λ (ms : List Module). Some (image ms base [])) (sym as_scoped);
+        as_read = resolved_have_the_image h.1.0 base [];
+        has_code = image_has_code (map resolved h.1.0);
         sound = subst (λ (ms : List Module). IsSound (linked ms base [])) (sym scoped) (is_sound l.linkable l.built l.kept l.few);
         outside = subst (λ (ms : List Module). (X : Outside) × IsOutsideOf (linked ms base []) X) (sym scoped) (has_outside l.linkable l.built);
       }

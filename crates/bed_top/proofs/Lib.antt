@@ -1,5 +1,6 @@
 pub mod ClauseLaws
 pub mod DueLaws
+mod ImageLaws
 pub mod ReportLaws
 pub mod ReturnLaws
 pub mod StageLaws

@@ -38,7 +38,7 @@ use Rattle.bed_top.specs.Returns.{only, has_name, all_differ, is_empty, is_emp, 
 use Rattle.bed_lang.specs.declared.condition.Decls.{Decls}
 use Rattle.bed_lang.specs.Lookups.{first_signature}
 use Rattle.bed_lang.specs.Declarations.{declarations}
-use Rattle.bed_names.specs.Declarations.{signature_named}
+use Rattle.bed_lang.specs.Lookups.{signature_named}
 use Rattle.bed_names.specs.Terms.{Visible, with_names}
 use Rattle.bed_names.specs.Modules.{plain, signature_names, function_visible}
 use Rattle.bed_names.specs.Resolved.{resolved, resolved_term, resolved_assertion, resolved_signature, resolved_predicate, resolved_step, resolved_stmt_step, resolved_kind, resolved_stmt, resolved_function}
@@ -447,7 +447,7 @@ body_resolved v (s ∷ []) h = by_returned (returned_of (out-StmtKind (resolved_
 function_resolved : (d : Decls) (f : Function) → function_is_built (resolved_function d f) ≡ true → resolved_function d f ≡ f
 function_resolved d f h =
     ap (λ (body : List Stmt). record f { body = body })
-    (body_resolved (function_visible d (signature_named d f.signature) f) f.body (and_parts (is_empty f.locals) _ h).1)
+    (body_resolved (function_visible d (signature_named d f.signature.bytes) f) f.body (and_parts (is_empty f.locals) _ h).1)
 
 functions_resolved : (d : Decls) (fs : List Function) → list_all function_is_built (map (resolved_function d) fs) ≡ true → map (resolved_function d) fs ≡ fs
 functions_resolved d [] h = refl

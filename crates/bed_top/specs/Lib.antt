@@ -7,3 +7,4 @@ pub mod Work
 pub mod Lines
 pub mod Outcomes
 pub mod Promises
+pub mod Laws

@@ -10,16 +10,17 @@ use Rattle.bed_table.specs.Layout.{code_length}
 use Rattle.bed_names.specs.declared.error.NameError.{NameError}
 use Rattle.bed_names.specs.declared.error.NameError.TheVariants as name
 use Rattle.bed_names.specs.InScope.{InScope}
+use Rattle.bed_names.specs.Resolved.{resolved}
 use Rattle.bed_read.specs.declared.whole.ReadError.{ReadError}
 use Rattle.std.specs.declared.alloc.Global.{Global}
 use Rattle.bed_words.specs.declared.command.Job.{Job}
-use Rattle.bed_top.specs.Causes.{most_text, is_long, AreModules, FirstRefused, first_misnamed, name_status, word_at, function_count, read_status, unbuilt_word, Measuring}
+use Rattle.bed_top.specs.Causes.{most_text, is_long, AreModules, FirstRefused, first_misnamed, name_status, word_at, function_count, read_status, unbuilt_word, broken_status, Building, Reading, Measuring}
 use Rattle.bed_words.specs.declared.command.Command.{Command}
 use Rattle.bed_words.specs.Commands.{IsCommand}
 use Rattle.bed_words.specs.Limits.{limit_of}
 use Rattle.bed_words.specs.Usage.{IsUsage, PassesLimit}
 use Rattle.bed_top.specs.Files.{out_file, HasRead, IsAbsent, JobLeaves, SameCounts}
-use Rattle.bed_top.specs.Returns.{module_is_built}
+use Rattle.bed_top.specs.Returns.{module_is_built, broken_condition}
 use Rattle.bed_top.specs.Work.{base, Ends}
 use Rattle.bed_top.specs.declared.lines.Numbers.{Numbers}
 use Rattle.bed_top.specs.declared.status.Status.{Status}
@@ -104,6 +105,24 @@ pub record LinksTexts (job : Job) (texts : List (List ℕ)) (n : Numbers) (old n
   pub functions : n.functions ≡ function_count modules
   pub bytes : n.bytes ≡ code_length modules
   pub written : IsTrue old.tells → new.held (out_file job) ≡ Some (image modules base [])
+
+-- How each part of the work ends, over the files before and after it: the image of a module whose conditions hold is written; the
+-- conditions of a built module are judged; the one scoped module is linked where it is built; the texts are read and linked.
+abbrev pub WriteEnds : Job → Module → Numbers → FilesState → FilesState → Status → Type 0
+WriteEnds job m n old new s = Ends (λ t. t ≡ broken_status None) (LinksOne job m n old new) old new s
+
+abbrev pub LinkEnds : Job → Module → Numbers → FilesState → FilesState → Status → Type 0
+LinkEnds job m n old new s = Ends (λ t. t ≡ broken_status (broken_condition m)) (LinksOne job m n old new) old new s
+
+abbrev pub FinishEnds : Job → List Module → Numbers → FilesState → FilesState → Status → Type 0
+FinishEnds job ms n old new s = Ends (Building job ms) (LinksOnly job ms n old new) old new s
+
+abbrev pub BuildEnds : Job → List (List ℕ) → Numbers → FilesState → FilesState → Status → Type 0
+BuildEnds job texts n old new s = Ends (Reading job texts) (LinksTexts job texts n old new) old new s
+
+-- the scoped modules are those of modules none of which breaks a rule of names
+abbrev pub AreScoped : List Module → List InScope → Type 0
+AreScoped ms scoped = (first_misnamed 0 ms ≡ None) × (modules_of scoped ≡ map resolved ms)
 
 -- what a part of the work that reads no file leaves
 pub record Proceeds (job : Job) (old new : FilesState) (s : Status) : Type 0 where

@@ -1,5 +1,5 @@
 -- What the top call promises: the whole of a run, and what is read off it.
-use Rattle.std.specs.Prelude.{◌≡◌, ◌⊎◌, ℕ, true, false, IsTrue, List, [], map, Some}
+use Rattle.std.specs.Prelude.{◌≡◌, ◌⊎◌, ℕ, true, false, IsTrue, List, [], map, ◌++◌, None, Some}
 use Rattle.bed_lang.specs.declared.limit.Which.{Which}
 use Rattle.bed_lang.specs.declared.module.Module.{Module}
 use Rattle.bed_table.specs.Image.{image}
@@ -9,10 +9,10 @@ use Rattle.bed_io.specs.Sink.{SinkState}
 use Rattle.bed_names.specs.Resolved.{resolved}
 use Rattle.bed_sat.specs.Linking.{linked}
 use Rattle.bed_sat.specs.Runs.{Outside}
-use Rattle.bed_sat.specs.Sound.{IsOutsideOf, IsSound}
+use Rattle.bed_sat.specs.Sound.{IsOutsideOf, IsSound, Linked}
 use Rattle.bed_words.specs.declared.command.Job.{Job}
 use Rattle.bed_words.specs.Usage.{IsUsage, PassesLimit}
-use Rattle.bed_top.specs.Causes.{Asks, AreModules, Due}
+use Rattle.bed_top.specs.Causes.{Asks, AreModules, Due, first_misnamed}
 use Rattle.bed_top.specs.Files.{out_file}
 use Rattle.bed_top.specs.Lines.{Reports, SinkGoesOn}
 use Rattle.bed_top.specs.Work.{base, Worked}
@@ -32,17 +32,25 @@ pub record Ran (words : List (List ℕ)) (old new : FilesState) (sink_old sink_n
 abbrev pub contents : FilesState → Job → List (List ℕ)
 contents files job = map (bytes_of files) job.modules
 
--- Where the files tell their contents: the texts in the module files are those of modules, the image's file has the bytes of the
--- table for these modules, and the code in it is sound for them, as their names are resolved: from every start at an exported
--- function that meets its precondition, for every number of turns and every honest outside, no fault occurs, every function,
--- loop head and outside address is reached only in a state that meets what is written of it, the starter's other memory stays,
--- and a return meets the postcondition. There is an outside for the code, so that this says something.
+-- the bytes of an image end with this code
+abbrev pub HasCode : List ℕ → Linked → Type 0
+HasCode bytes l = (head : List ℕ) × (bytes ≡ head ++ l.code.bytes)
+
+-- Where the files tell their contents: the texts in the module files are those of modules, none of which breaks a rule of names;
+-- the image's file has the bytes of the table for these modules, with their names resolved or as they were read, which is the same;
+-- and the code in it is sound for them: from every start at an exported function that meets its precondition, for every number of
+-- turns and every honest outside, no fault occurs, every function, loop head and outside address is reached only in a state that
+-- meets what is written of it, the starter's other memory stays, and a return meets the postcondition. There is an outside for the
+-- code, so that this says something.
 pub record Links (words : List (List ℕ)) (old new : FilesState) : Type 0 where
   pub job : Job
   pub asked : Asks words job
   pub modules : List Module
   pub read : AreModules (contents old job) modules
-  pub written : new.held (out_file job) ≡ Some (image modules base [])
+  pub scoped : first_misnamed 0 modules ≡ None
+  pub written : new.held (out_file job) ≡ Some (image (map resolved modules) base [])
+  pub as_read : image (map resolved modules) base [] ≡ image modules base []
+  pub has_code : HasCode (image (map resolved modules) base []) (linked (map resolved modules) base [])
   pub sound : IsSound (linked (map resolved modules) base [])
   pub outside : (X : Outside) × IsOutsideOf (linked (map resolved modules) base []) X
 

@@ -1,11 +1,8 @@
 //! The work from the texts of a link to its image.
-ghost use Rattle.std.specs.Prelude.{◌≡◌, ◌+◌, ◌<◌, ◌≤◌, ◌^◌, ℕ, List, length, map, true, None, Some, IfOk, IfErr, if◌then◌else◌};
-ghost use Rattle.bed_words.specs.declared.command.Job.{Job};
-ghost use Rattle.bed_names.specs.Resolved.{resolved};
-ghost use Rattle.bed_top.specs.Causes.{broken_status, first_misnamed, function_count, name_status, word_at, Building, Reading};
+ghost use Rattle.std.specs.Prelude.{◌≡◌, ◌<◌, ◌≤◌, ◌^◌, length, true, None, IfOk, IfErr, if◌then◌else◌};
+ghost use Rattle.bed_top.specs.Causes.{function_count, word_at};
 ghost use Rattle.bed_top.specs.Returns.{broken_condition, module_is_built};
-ghost use Rattle.bed_top.specs.Outcomes.{modules_of, texts_of, AreCut, IsMisnamed, LinksOne, LinksOnly, LinksTexts, Proceeds};
-ghost use Rattle.bed_top.specs.Work.{Ends};
+ghost use Rattle.bed_top.specs.Outcomes.{modules_of, texts_of, AreCut, AreScoped, BuildEnds, FinishEnds, IsMisnamed, LinkEnds, Proceeds, WriteEnds};
 
 use crate::asked::not_built;
 use crate::lines::{Numbers, file_name, out_name};
@@ -50,7 +47,7 @@ fn write<F: Files>(alloc: Global, job: &Job, files: &mut F, linked: &Module) -> 
     requires built { module_is_built linked.now ≡ true }
     requires kept { broken_condition linked.now ≡ None }
     requires few { length linked.now.functions ≤ 1024 }
-    ensures ends { Ends (λ s. s ≡ broken_status None) (LinksOne job.now linked.now result.numbers (F.seen files.old) (F.seen files.new)) (F.seen files.old) (F.seen files.new) result.status }
+    ensures ends { WriteEnds job.now linked.now result.numbers (F.seen files.old) (F.seen files.new) result.status }
     ensures proceeds { Proceeds job.now (F.seen files.old) (F.seen files.new) result.status }
 {
     let Ok(copy) = linked.copy(alloc) else {
@@ -79,7 +76,7 @@ fn write<F: Files>(alloc: Global, job: &Job, files: &mut F, linked: &Module) -> 
 fn link<F: Files>(alloc: Global, job: &Job, files: &mut F, linked: &Module) -> Outcome
     requires built { module_is_built linked.now ≡ true }
     requires few { length linked.now.functions ≤ 1024 }
-    ensures ends { Ends (λ s. s ≡ broken_status (broken_condition linked.now)) (LinksOne job.now linked.now result.numbers (F.seen files.old) (F.seen files.new)) (F.seen files.old) (F.seen files.new) result.status }
+    ensures ends { LinkEnds job.now linked.now result.numbers (F.seen files.old) (F.seen files.new) result.status }
     ensures proceeds { Proceeds job.now (F.seen files.old) (F.seen files.new) result.status }
 {
     match broken(linked) {
@@ -102,7 +99,7 @@ fn unbuilt_number(first: &Module) -> usize
 fn finish<F: Files>(alloc: Global, job: &Job, files: &mut F, scoped: &[Scoped]) -> Outcome
     requires some { 1 ≤ length scoped.now }
     requires few { function_count (modules_of scoped.now) ≤ 1024 }
-    ensures ends { Ends (Building job.now (modules_of scoped.now)) (LinksOnly job.now (modules_of scoped.now) result.numbers (F.seen files.old) (F.seen files.new)) (F.seen files.old) (F.seen files.new) result.status }
+    ensures ends { FinishEnds job.now (modules_of scoped.now) result.numbers (F.seen files.old) (F.seen files.new) result.status }
     ensures proceeds { Proceeds job.now (F.seen files.old) (F.seen files.new) result.status }
 {
     match scoped {
@@ -137,7 +134,7 @@ fn text_of(texts: &[Vec<u8>], file: u32) -> &[u8]
 fn scope_all(alloc: Global, texts: &[Vec<u8>], modules: Vec<Module>) -> Result<Vec<Scoped>, Status>
     requires few { length modules.items < 2 ^ 32 }
     requires cut { AreCut (texts_of texts.now) }
-    ensures ok { IfOk result (λ scoped. (first_misnamed 0 modules.items ≡ None) × (modules_of scoped.items ≡ map resolved modules.items)) }
+    ensures ok { IfOk result (λ scoped. AreScoped modules.items scoped.items) }
     ensures refused { IfErr result (IsMisnamed (texts_of texts.now) modules.items) }
 {
     let mut scoped = Vec::new(alloc);
@@ -153,7 +150,7 @@ pub(crate) fn build<F: Files>(alloc: Global, job: &Job, files: &mut F, texts: &[
     requires some { 1 ≤ length texts.now }
     requires few { length texts.now < 2 ^ 32 }
     requires cut { AreCut (texts_of texts.now) }
-    ensures ends { Ends (Reading job.now (texts_of texts.now)) (LinksTexts job.now (texts_of texts.now) result.numbers (F.seen files.old) (F.seen files.new)) (F.seen files.old) (F.seen files.new) result.status }
+    ensures ends { BuildEnds job.now (texts_of texts.now) result.numbers (F.seen files.old) (F.seen files.new) result.status }
     ensures proceeds { Proceeds job.now (F.seen files.old) (F.seen files.new) result.status }
 {
     let mut modules = Vec::new(alloc);

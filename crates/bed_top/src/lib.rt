@@ -4,6 +4,7 @@
 mod asked;
 mod build;
 mod call;
+pub mod laws;
 mod lines;
 mod modules;
 mod place;

@@ -1,7 +1,5 @@
-//! Tests of the top call: words and texts with the line that is put, the exit status and the image.
+//! Tests of the top call over files and a sink in memory that fail.
 #![tactic(auto)]
 
 #[cfg(test)]
-mod names;
-#[cfg(test)]
-mod statuses;
+mod faults;

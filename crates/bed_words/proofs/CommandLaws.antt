@@ -16,8 +16,8 @@ use Rattle.bed_words.specs.Commands.{IsCommand, word_of}
 use Rattle.bed_words.specs.Limits.{limit_of}
 use Rattle.bed_words.specs.Usage.{Begins, IsUsage, PassesLimit, Answers, OneCommand, OneAnswer, HasAnswer}
 use Rattle.bed_words.specs.Reading.{verb_of, later, read_options, read_after, read_words, Gives}
-use Rattle.bed_words.proofs.OptionLaws.{has-required, required-lacks}
-use Rattle.bed_words.proofs.ReadingLaws.{IsReading, read, sound, complete, begins, stays, within, not_both, Completes}
+use Rattle.bed_words.proofs.OptionLemmas.{has-required, required-lacks}
+use Rattle.bed_words.proofs.ReadingLemmas.{IsReading, read, sound, complete, begins, stays, within, not_both, Completes}
 
 -- the first word of a command names it
 

@@ -1,5 +1,5 @@
-pub mod OptionLaws
-pub mod ReadingLaws
+mod CallLemmas
 pub mod CommandLaws
-pub mod LoopLaws
-pub mod CallLaws
+mod LoopLemmas
+mod OptionLemmas
+mod ReadingLemmas

@@ -6,8 +6,6 @@ mod command;
 mod laws;
 mod making;
 mod options;
-#[cfg(test)]
-mod tests;
 mod values;
 mod verb;
 

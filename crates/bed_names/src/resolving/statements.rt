@@ -2,6 +2,7 @@
 ghost use Rattle.std.specs.Prelude.{◌≡◌, IfOk, map};
 ghost use Rattle.bed_names.specs.Resolved.{resolved_hint, resolved_assertion, resolved_keep, resolved_join, resolved_kind, resolved_stmt};
 
+use crate::resolving::copies::both;
 use crate::resolving::terms::{assertion, hint, hints, kept};
 use crate::visible::Outer;
 use bed_lang::{Assertion, Hint, Join, List, Name, Operand, Seq, Stmt, StmtKind, Test, Tree};
@@ -19,6 +20,36 @@ fn join(alloc: Global, outer: &Outer, join: &Option<Join>) -> Result<Option<Join
     }
 }
 
+// Where a call's result goes, what it calls, and with which arguments.
+fn called(
+    alloc: Global,
+    into: &Name,
+    target: &Operand,
+    via: &Option<Name>,
+    args: &List<Operand>,
+) -> Result<((Name, Operand), (Option<Name>, List<Operand>)), AllocError>
+    ensures { IfOk result (λ r. r ≡ ((into.now, target.now), (via.now, args.now))) }
+{
+    let heads = both(alloc, into, target)?;
+    let rest = both(alloc, via, args)?;
+    Ok((heads, rest))
+}
+
+// The hints of a call, and what holds after it.
+fn used_and_after(
+    alloc: Global,
+    outer: &Outer,
+    used: &List<Hint>,
+    after: &Assertion,
+) -> Result<(List<Hint>, Assertion), AllocError>
+    ensures used { IfOk result (λ r. r.0 ≡ map (resolved_hint outer.now) used.now) }
+    ensures after { IfOk result (λ r. r.1 ≡ resolved_assertion outer.now after.now) }
+{
+    let hints = hints(alloc, outer, used.as_slice())?;
+    let after = assertion(alloc, outer, after)?;
+    Ok((hints, after))
+}
+
 fn resolve_call(
     alloc: Global,
     outer: &Outer,
@@ -32,14 +63,15 @@ fn resolve_call(
 ) -> Result<StmtKind, AllocError>
     ensures { IfOk result (λ r. r ≡ StmtKind.Call place into.now target.now via.now args.now (map (resolved_hint outer.now) used.now) (resolved_assertion outer.now after.now)) }
 {
-    let hints = hints(alloc, outer, used.as_slice())?;
-    let after = assertion(alloc, outer, after)?;
+    let heads = called(alloc, into, target, via, args)?;
+    let (hints, after) = used_and_after(alloc, outer, used, after)?;
+    let ((into, target), (via, args)) = heads;
     Ok(StmtKind::Call {
         place,
-        into: into.copy(alloc)?,
-        target: target.copy(alloc)?,
-        via: via.copied(alloc)?,
-        args: args.copied(alloc)?,
+        into,
+        target,
+        via,
+        args,
         hints,
         after,
     })
@@ -83,29 +115,53 @@ fn resolve_while(
     })
 }
 
-// What `find` and `walk` go over: the list, its elements, and the names of those seen and of the rest.
+// The names of the elements seen and of the rest, and what is kept.
+fn keep_of(
+    alloc: Global,
+    outer: &Outer,
+    seen: &Name,
+    rest: &Name,
+    keep: &Assertion,
+) -> Result<((Name, Name), Assertion), AllocError>
+    ensures names { IfOk result (λ r. r.0 ≡ (seen.now, rest.now)) }
+    ensures keep { IfOk result (λ r. r.1 ≡ resolved_keep outer.now seen.now rest.now keep.now) }
+{
+    let names = both(alloc, seen, rest)?;
+    let keep = kept(alloc, outer, seen, rest, keep)?;
+    Ok((names, keep))
+}
+
+// What `find` and `walk` go over: the list, its elements, and what is kept of them.
 fn over(
     alloc: Global,
+    outer: &Outer,
     list: &Name,
     seq: &Seq,
     seen: &Name,
     rest: &Name,
-) -> Result<(Name, Seq, Name, Name), AllocError>
-    ensures { IfOk result (λ r. r ≡ (list.now, seq.now, seen.now, rest.now)) }
+    keep: &Assertion,
+) -> Result<((Name, Seq), ((Name, Name), Assertion)), AllocError>
+    ensures list { IfOk result (λ r. r.0 ≡ (list.now, seq.now)) }
+    ensures names { IfOk result (λ r. r.1.0 ≡ (seen.now, rest.now)) }
+    ensures keep { IfOk result (λ r. r.1.1 ≡ resolved_keep outer.now seen.now rest.now keep.now) }
 {
-    Ok((
-        list.copy(alloc)?,
-        seq.copy(alloc)?,
-        seen.copy(alloc)?,
-        rest.copy(alloc)?,
-    ))
+    let list = both(alloc, list, seq)?;
+    let keep = keep_of(alloc, outer, seen, rest, keep)?;
+    Ok((list, keep))
 }
 
-// The two locals that `find` and `walk` set.
-fn locals(alloc: Global, node: &Name, value: &Name) -> Result<(Name, Name), AllocError>
-    ensures { IfOk result (λ r. r ≡ (node.now, value.now)) }
+// The locals that a `find` sets, and what it looks for.
+fn find_heads(
+    alloc: Global,
+    node: &Name,
+    value: &Name,
+    key: &Operand,
+) -> Result<((Name, Name), Operand), AllocError>
+    ensures { IfOk result (λ r. r ≡ ((node.now, value.now), key.now)) }
 {
-    Ok((node.copy(alloc)?, value.copy(alloc)?))
+    let locals = both(alloc, node, value)?;
+    let key = key.copy(alloc)?;
+    Ok((locals, key))
 }
 
 fn resolve_find(
@@ -123,10 +179,10 @@ fn resolve_find(
 ) -> Result<StmtKind, AllocError>
     ensures { IfOk result (λ r. r ≡ StmtKind.Find node.now value.now key.now list.now seq.now seen.now rest.now (resolved_keep outer.now seen.now rest.now keep.now) body) }
 {
-    let keep = kept(alloc, outer, seen, rest, keep)?;
-    let key = key.copy(alloc)?;
-    let (node, value) = locals(alloc, node, value)?;
-    let (list, seq, seen, rest) = over(alloc, list, seq, seen, rest)?;
+    let heads = find_heads(alloc, node, value, key)?;
+    let over = over(alloc, outer, list, seq, seen, rest, keep)?;
+    let ((node, value), key) = heads;
+    let ((list, seq), ((seen, rest), keep)) = over;
     Ok(StmtKind::Find {
         node,
         value,
@@ -154,9 +210,10 @@ fn resolve_walk(
 ) -> Result<StmtKind, AllocError>
     ensures { IfOk result (λ r. r ≡ StmtKind.Walk node.now value.now list.now seq.now seen.now rest.now (resolved_keep outer.now seen.now rest.now keep.now) body) }
 {
-    let keep = kept(alloc, outer, seen, rest, keep)?;
-    let (node, value) = locals(alloc, node, value)?;
-    let (list, seq, seen, rest) = over(alloc, list, seq, seen, rest)?;
+    let locals = both(alloc, node, value)?;
+    let over = over(alloc, outer, list, seq, seen, rest, keep)?;
+    let (node, value) = locals;
+    let ((list, seq), ((seen, rest), keep)) = over;
     Ok(StmtKind::Walk {
         node,
         value,

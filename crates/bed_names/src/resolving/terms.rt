@@ -1,8 +1,10 @@
 //! Arguments, assertions and hints without bare arguments.
 #![tactic(auto, using(std::proofs::lemmas::List::map_more))]
 
-ghost use Rattle.std.specs.Prelude.{◌≡◌, ◌∷◌, [], IfOk, map};
-ghost use Rattle.bed_names.specs.Declarations.{sequences};
+ghost use Rattle.std.specs.Prelude.{◌≡◌, ◌∷◌, [], IfOk, map, None};
+ghost use Rattle.bed_lang.specs.declared.logic.Atom.TheVariants as atom;
+ghost use Rattle.bed_lang.specs.declared.module.Hint.TheVariants as hint;
+ghost use Rattle.bed_names.specs.Names.{sequences};
 ghost use Rattle.bed_names.specs.Resolved.{bare_sort as sort_of_bare, bare_variable as variable_of_bare, variable_arg, resolved_arg, resolved_args, resolved_applied, resolved_atom, resolved_term, resolved_assertion, resolved_hint, resolved_keep};
 ghost use Rattle.bed_names.specs.Terms.{with_names};
 
@@ -80,17 +82,19 @@ fn applied(alloc: Global, scope: &Scope, x: &Name, args: &[Arg]) -> Result<List<
     arguments(alloc, scope, asked(scope.predicate(x), args), args)
 }
 
+fn predicate(alloc: Global, scope: &Scope, x: &Name, args: &[Arg]) -> Result<Atom, AllocError>
+    ensures { IfOk result (λ r. r ≡ atom.Pred x.now (resolved_applied scope.now x.now args.now)) }
+{
+    let args = applied(alloc, scope, x, args)?;
+    Ok(Atom::Pred(x.copy(alloc)?, args))
+}
+
 fn atom(alloc: Global, scope: &Scope, a: &Atom) -> Result<Atom, AllocError>
     ensures { IfOk result (λ r. r ≡ resolved_atom scope.now a.now) }
 {
     match a {
-        Atom::Cell(a, b) => Ok(Atom::Cell(a.copy(alloc)?, b.copy(alloc)?)),
-        Atom::Byte(a, b) => Ok(Atom::Byte(a.copy(alloc)?, b.copy(alloc)?)),
-        Atom::Block(a, b) => Ok(Atom::Block(a.copy(alloc)?, b.copy(alloc)?)),
-        Atom::Pred(x, args) => {
-            let args = applied(alloc, scope, x, args.as_slice())?;
-            Ok(Atom::Pred(x.copy(alloc)?, args))
-        }
+        Atom::Pred(x, args) => predicate(alloc, scope, x, args.as_slice()),
+        _ => a.copy(alloc),
     }
 }
 
@@ -124,8 +128,8 @@ fn bound(
     ensures { IfOk result (λ r. r ≡ resolved_assertion (with_names outer.now (sequences (map (λ y. y.now) lists.now))) a.now) }
 {
     let scope = outer.with(lists, a.binders.as_slice());
-    let terms = terms(alloc, &scope, a.terms.as_slice())?;
     let binders = a.binders.copied(alloc)?;
+    let terms = terms(alloc, &scope, a.terms.as_slice())?;
     Ok(Assertion {
         at: a.at,
         binders,
@@ -157,19 +161,34 @@ pub(crate) fn kept(
     bound(alloc, outer, &[seen, rest], a)
 }
 
+fn fold(
+    alloc: Global,
+    scope: &Scope,
+    x: &Name,
+    args: &[Arg],
+    number: u32,
+) -> Result<Hint, AllocError>
+    ensures { IfOk result (λ r. r ≡ hint.Fold x.now (resolved_applied scope.now x.now args.now) number) }
+{
+    let args = applied(alloc, scope, x, args)?;
+    Ok(Hint::Fold(x.copy(alloc)?, args, number))
+}
+
+fn give(alloc: Global, scope: &Scope, x: &Name, a: &Arg) -> Result<Hint, AllocError>
+    ensures { IfOk result (λ r. r ≡ hint.Give x.now (resolved_arg scope.now None a.now)) }
+{
+    let name = x.copy(alloc)?;
+    let value = argument(alloc, scope, None, a)?;
+    Ok(Hint::Give(name, value))
+}
+
 /// The same for a hint.
 pub(crate) fn hint(alloc: Global, outer: &Outer, h: &Hint) -> Result<Hint, AllocError>
     ensures { IfOk result (λ r. r ≡ resolved_hint outer.now h.now) }
 {
     match h {
-        Hint::Fold(x, args, number) => {
-            let args = applied(alloc, &outer.inner(), x, args.as_slice())?;
-            Ok(Hint::Fold(x.copy(alloc)?, args, *number))
-        }
-        Hint::Give(x, a) => {
-            let a = argument(alloc, &outer.inner(), None, a)?;
-            Ok(Hint::Give(x.copy(alloc)?, a))
-        }
+        Hint::Fold(x, args, number) => fold(alloc, &outer.inner(), x, args.as_slice(), *number),
+        Hint::Give(x, a) => give(alloc, &outer.inner(), x, a),
         _ => h.copy(alloc),
     }
 }

@@ -1,5 +1,5 @@
 use Rattle.std.proofs.Common.{sym}
-use Rattle.bed_lex.proofs.NumberLaws.{passes}
+use Rattle.bed_lex.proofs.NumberLemmas.{passes}
 use Rattle.bed_lex.proofs.front.digits.Goals as goal
 
 pub returns-then-value-gt4294967295 : goal.returns-then-value-gt4294967295

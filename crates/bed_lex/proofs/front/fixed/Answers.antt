@@ -1,5 +1,5 @@
 use Rattle.std.proofs.Common.{◌∙◌}
-use Rattle.bed_lex.proofs.MarkLaws.{fixed_in_words}
+use Rattle.bed_lex.proofs.MarkLemmas.{fixed_in_words}
 use Rattle.bed_lex.proofs.front.fixed.Goals as goal
 
 pub returns-clause-exact : goal.returns-clause-exact

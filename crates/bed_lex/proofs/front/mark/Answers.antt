@@ -1,5 +1,5 @@
 use Rattle.std.proofs.Common.{◌∙◌}
-use Rattle.bed_lex.proofs.MarkLaws.{mark_in_marks}
+use Rattle.bed_lex.proofs.MarkLemmas.{mark_in_marks}
 use Rattle.bed_lex.proofs.front.mark.Goals as goal
 
 pub returns : goal.returns

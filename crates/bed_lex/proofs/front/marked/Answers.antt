@@ -1,5 +1,5 @@
 use Rattle.std.proofs.Common.{sym}
-use Rattle.bed_lex.proofs.MarkLaws.{mark_sized}
+use Rattle.bed_lex.proofs.MarkLemmas.{mark_sized}
 use Rattle.bed_lex.proofs.front.marked.Goals as goal
 
 pub returns-in-Some-fixed-clause-sized : goal.returns-in-Some-fixed-clause-sized

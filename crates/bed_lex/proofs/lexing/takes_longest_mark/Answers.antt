@@ -1,4 +1,4 @@
-use Rattle.bed_lex.proofs.MarkLaws.{longest}
+use Rattle.bed_lex.proofs.MarkLemmas.{longest}
 use Rattle.bed_lex.proofs.lexing.takes_longest_mark.Goals as goal
 
 pub returns : goal.returns

@@ -1,5 +1,5 @@
 use Rattle.std.proofs.Common.{◌≡◌, drop}
-use Rattle.bed_names.specs.Declarations.{is_among}
+use Rattle.bed_names.specs.Names.{is_among}
 use Rattle.bed_names.specs.Terms.{bind_names}
 use Rattle.bed_names.proofs.twice.is_bound.Given as goal
 

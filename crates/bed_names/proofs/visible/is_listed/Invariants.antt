@@ -1,5 +1,5 @@
 use Rattle.std.proofs.Common.{◌≡◌, drop, map}
-use Rattle.bed_names.specs.Declarations.{is_among}
+use Rattle.bed_names.specs.Names.{is_among}
 use Rattle.bed_names.proofs.visible.is_listed.Given as goal
 
 abbrev pub invariant-loop-y : goal.invariant-loop-y

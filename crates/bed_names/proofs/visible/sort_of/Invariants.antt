@@ -1,5 +1,5 @@
 use Rattle.std.proofs.Common.{◌≡◌, drop}
-use Rattle.bed_names.specs.Declarations.{sort_of}
+use Rattle.bed_names.specs.Names.{sort_of}
 use Rattle.bed_names.proofs.visible.sort_of.Given as goal
 
 abbrev pub invariant-loop-b : goal.invariant-loop-b

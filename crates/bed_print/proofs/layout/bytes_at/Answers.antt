@@ -1,5 +1,5 @@
 use Rattle.std.proofs.Common.{◌∙◌}
-use Rattle.bed_print.proofs.LayoutLaws.{word_at, no_word}
+use Rattle.bed_print.proofs.LayoutLemmas.{word_at, no_word}
 use Rattle.bed_print.proofs.layout.bytes_at.Goals as goal
 
 pub returns-then-position-words : goal.returns-then-position-words

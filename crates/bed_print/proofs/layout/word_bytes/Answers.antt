@@ -1,5 +1,5 @@
 use Rattle.std.proofs.Common.{◌∙◌}
-use Rattle.bed_print.proofs.LayoutLaws.{fixed_at}
+use Rattle.bed_print.proofs.LayoutLemmas.{fixed_at}
 use Rattle.bed_print.proofs.layout.word_bytes.Goals as goal
 
 pub returns : goal.returns

@@ -1,4 +1,4 @@
-use Rattle.bed_print.proofs.ListLaws.{all_more, all_done}
+use Rattle.bed_print.proofs.ListLemmas.{all_more, all_done}
 use Rattle.bed_print.proofs.list.push_all.Goals as goal
 
 pub loop-item-preserved : goal.loop-item-preserved

@@ -1,4 +1,4 @@
-use Rattle.bed_print.proofs.ListLaws.{each_more, each_done}
+use Rattle.bed_print.proofs.ListLemmas.{each_more, each_done}
 use Rattle.bed_print.proofs.list.push_each_after.Goals as goal
 
 pub loop-item-preserved : goal.loop-item-preserved

@@ -1,5 +1,6 @@
 use Rattle.bed_sat.proofs.WrittenLaws.{list_loops_are_written}
 use Rattle.bed_sat.proofs.WrittenCode.{code_is_same}
+use Rattle.bed_sat.proofs.WrittenParts.{paths_are_same}
 use Rattle.bed_sat.proofs.PathLaws.{paths_end, negations_decide, returns_owe_one, operands_are_terms}
 use Rattle.bed_sat.proofs.LivePaths.{paths_go_on}
 use Rattle.bed_sat.proofs.laws.conditions.Goals as goal
@@ -24,3 +25,6 @@ returns-clause-negations c = negations_decide
 
 pub returns-clause-live_paths : goal.returns-clause-live_paths
 returns-clause-live_paths c = paths_go_on
+
+pub returns-clause-same_paths : goal.returns-clause-same_paths
+returns-clause-same_paths c = paths_are_same

@@ -1,14 +1,11 @@
 use Rattle.bed_sat.proofs.SatLaws.{sat_add}
-use Rattle.bed_sat.proofs.SameLaws.{holds_same, holds_extends}
+use Rattle.bed_sat.proofs.SameLaws.{holds_same}
 use Rattle.bed_sat.proofs.ScopeLaws.{holds_agree}
 use Rattle.bed_sat.proofs.SignatureLaws.{enters_same, returned_same}
 use Rattle.bed_sat.proofs.laws.truth.Goals as goal
 
 pub returns-clause-deeper : goal.returns-clause-deeper
 returns-clause-deeper c = λ w more depth. sat_add w more depth
-
-pub returns-clause-declared : goal.returns-clause-declared
-returns-clause-declared c = λ few more codes labels x. holds_extends few more x codes labels
 
 pub returns-clause-scope : goal.returns-clause-scope
 returns-clause-scope c = holds_agree

@@ -1,5 +1,5 @@
 use Rattle.std.specs.Prelude.{string_bytes}
-use Rattle.bed_words.proofs.CallLaws.{rest-small}
+use Rattle.bed_words.proofs.CallLemmas.{rest-small}
 use Rattle.bed_words.proofs.call.read.Goals as goal
 
 pub later-requires : goal.later-requires

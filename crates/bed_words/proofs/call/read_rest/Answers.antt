@@ -1,7 +1,7 @@
 use Rattle.std.proofs.Common.{◌∙◌, sym, subst, Err, []}
 use Rattle.std.specs.Prelude.{string_bytes, map}
 use Rattle.bed_words.specs.Reading.{Gives, read_options}
-use Rattle.bed_words.proofs.CallLaws.{missing, gives-command, gives-refusal, refusal-small}
+use Rattle.bed_words.proofs.CallLemmas.{missing, gives-command, gives-refusal, refusal-small}
 use Rattle.bed_words.proofs.call.read_rest.Goals as goal
 
 pub returns-then-lacks_required : goal.returns-then-lacks_required

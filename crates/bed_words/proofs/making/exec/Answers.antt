@@ -1,5 +1,5 @@
 use Rattle.std.proofs.Common.{map, string_bytes}
-use Rattle.bed_words.proofs.LoopLaws.{exec-long}
+use Rattle.bed_words.proofs.LoopLemmas.{exec-long}
 use Rattle.bed_words.proofs.making.exec.Goals as goal
 
 pub returns-in-len3-up : goal.returns-in-len3-up

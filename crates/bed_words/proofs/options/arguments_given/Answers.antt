@@ -2,7 +2,7 @@ use Rattle.std.proofs.Common.{◌++◌, sym, ap, ◌∙◌, append-nil, codes}
 use Rattle.std.specs.Prelude.{string_bytes}
 use Rattle.std.specs.List.{filter_map}
 use Rattle.bed_words.specs.Values.{number_of}
-use Rattle.bed_words.proofs.LoopLaws.{values_of-short}
+use Rattle.bed_words.proofs.LoopLemmas.{values_of-short}
 use Rattle.bed_words.proofs.options.arguments_given.Goals as goal
 
 pub returns : goal.returns

@@ -2,7 +2,7 @@ use Rattle.std.proofs.Common.{◌≡◌, take, sym, ap, ◌∙◌, true, false}
 use Rattle.std.specs.Prelude.{string_bytes, map}
 use Rattle.bed_words.specs.Options.{is_option, fits}
 use Rattle.bed_words.specs.Reading.{may_come}
-use Rattle.bed_words.proofs.LoopLaws.{ends, empty-plain, first-plain, wrong-option, wrong-end, wrong-value, room, goes_on}
+use Rattle.bed_words.proofs.LoopLemmas.{ends, empty-plain, first-plain, wrong-option, wrong-end, wrong-value, room, goes_on}
 use Rattle.bed_words.proofs.options.count_options.Goals as goal
 
 pub returns-in_default-clause-counted : goal.returns-in_default-clause-counted

@@ -1,6 +1,6 @@
 use Rattle.std.proofs.Common.{map, string_bytes, sym, ◌∙◌}
-use Rattle.bed_words.proofs.OptionLaws.{is_given-never}
-use Rattle.bed_words.proofs.LoopLaws.{times-short}
+use Rattle.bed_words.proofs.OptionLemmas.{is_given-never}
+use Rattle.bed_words.proofs.LoopLemmas.{times-short}
 use Rattle.bed_words.proofs.options.given.Goals as goal
 
 pub returns : goal.returns

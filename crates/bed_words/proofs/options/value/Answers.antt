@@ -1,6 +1,6 @@
 use Rattle.std.proofs.Common.{sym, ◌∙◌}
 use Rattle.std.specs.Prelude.{string_bytes}
-use Rattle.bed_words.proofs.LoopLaws.{value_of-short}
+use Rattle.bed_words.proofs.LoopLemmas.{value_of-short}
 use Rattle.bed_words.proofs.options.value.Goals as goal
 
 pub returns : goal.returns

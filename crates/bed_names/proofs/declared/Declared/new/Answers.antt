@@ -13,11 +13,11 @@ invariant_of-result c =
     let p = c.in_ok-predicates in
     let l = c.in_ok-labels in
     record {
-      signature = indexes (λ s. s.name) (λ s. s) d.signatures s.signatures.table
+      signature = indexes (λ s. s.name) d.signatures s.signatures.table
           (subst (λ xs. IsIndex s.signatures.table (map (λ s. s.name) xs)) c.as_slice.ensures s.ensures.table);
-      predicate = indexes (λ p. p.name) (λ p. p) d.predicates p.predicates.table
+      predicate = indexes (λ p. p.name) d.predicates p.predicates.table
           (subst (λ xs. IsIndex p.predicates.table (map (λ p. p.name) xs)) c.as_slice-2.ensures p.ensures.table);
-      label = indexes (λ l. l.0) (λ l. l.1) d.labels l.labels.table
+      label = indexes (λ l. l.0) d.labels l.labels.table
           (subst (λ xs. IsIndex l.labels.table (map (λ l. l.0) xs)) c.as_slice-3.ensures l.ensures.table);
       fits = c.requires;
     }

@@ -1,4 +1,4 @@
-use Rattle.std.proofs.Common.{◌≡◌, ◌+◌, ◌*◌, ◌<◌, ◌++◌, drop}
+use Rattle.std.proofs.Common.{◌≡◌, ◌+◌, ◌*◌, ◌++◌, drop}
 use Rattle.bed_lang.specs.Numbers.{wrap}
 use Rattle.bed_table.specs.Words.{call_area}
 use Rattle.bed_table.specs.CodeTable.{arguments_bytes}

@@ -1,0 +1,4 @@
+mod StepLemmas
+mod FrontLemmas
+mod TrailLemmas
+mod ClosingLemmas

@@ -1,0 +1,5 @@
+mod FieldLemmas
+mod SymbolLemmas
+mod ImageLemmas
+mod LoopLemmas
+mod FaultLemmas
