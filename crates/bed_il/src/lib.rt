@@ -16,4 +16,3 @@ pub use blocks::{Block, Inst, Jump, Scratch, Value};
 pub use laws::bytes;
 pub use states::{IlFault, IlMove, IlState};
 pub use stepping::il_step;
-

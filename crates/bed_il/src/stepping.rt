@@ -169,7 +169,11 @@ fn follow<D: Store>(jump: Jump, s: &mut IlState<D>) -> IlMove
         Jump::Goto(label) => s.go_to(label),
         Jump::Fall(label) => s.go_to(label),
         Jump::Test { rel, yes, no } => {
-            let label = if compare(rel, s.first, s.second) { yes } else { no };
+            let label = if compare(rel, s.first, s.second) {
+                yes
+            } else {
+                no
+            };
             s.go_to(label);
         }
         Jump::Register(Reg::Esi) => return IlMove::Leaves(s.rp),

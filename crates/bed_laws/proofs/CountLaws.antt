@@ -89,10 +89,8 @@ module _ (site : Site) where
       omega (arith, action_grows (Assume (negated test)) (path_from invariant))
   layer (StmtKind-F.Return a) at p q e = none_some e
   layer (StmtKind-F.Hint h) at p q e = same_actions p (then_hint h p) q (omega arith) e
-  layer (StmtKind-F.Find n v a p s u t keep body) at r q e =
-      let m : length r.actions ≡ length q.actions = ap (λ (s : Path). length s.actions) (some_same e) in omega arith
-  layer (StmtKind-F.Walk n v p s u t keep body) at r q e =
-      let m : length r.actions ≡ length q.actions = ap (λ (s : Path). length s.actions) (some_same e) in omega arith
+  layer (StmtKind-F.Find n v a p s u t keep body) at r q e = let m : 1 ≡ length q.actions = ap (λ (s : Path). length s.actions) (some_same e) in omega arith
+  layer (StmtKind-F.Walk n v p s u t keep body) at r q e = let m : 1 ≡ length q.actions = ap (λ (s : Path). length s.actions) (some_same e) in omega arith
 
   every_grows : (s : Stmt) → StatementGrows s
   every_grows =

@@ -6,7 +6,6 @@ use Rattle.bed_il.specs.BlockMachine.{BlockState, Move, Within, Returns, Calls, 
 use Rattle.bed_laws.specs.Activations.{FunctionSite, Activation}
 use Rattle.bed_laws.specs.Keeps.{LoopHead, IsNow, Turns, Safe}
 
-
 -- blocks and heads are among others, which have no further head at their labels
 pub record Among (B : List Block) (heads : List LoopHead) (C : List Block) (all : List LoopHead) : Type 0 where
   pub at_block : (l : ℕ) (b : Block) → block_at B l ≡ Some b → block_at C l ≡ Some b

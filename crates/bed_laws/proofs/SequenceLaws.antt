@@ -15,7 +15,6 @@ use Rattle.bed_laws.specs.Keeps.{LoopHead, IsNow, Turns, Safe, Reaches, Keeps, A
 use Rattle.bed_laws.specs.Spans.{Spans}
 use Rattle.bed_laws.proofs.RunLaws.{Among, some_or_none, link}
 
-
 some_none : {A : Type 0} {x : A} → Some x ≡ None → ⊥
 some_none q = cc
 

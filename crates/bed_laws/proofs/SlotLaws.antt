@@ -26,7 +26,6 @@ use Rattle.bed_il.specs.BlockMachine.{BlockState, set_scratch, effect}
 use Rattle.bed_laws.specs.Activations.{FunctionSite, Activation, IsAmong, AreDistinct, AgreeButAt, words_of, IsMemoryOf, IsStateOf}
 use Rattle.bed_laws.specs.StatementBlocks.{value_of, IsKnown}
 
-
 -- a name is the one with this number, from 0
 abbrev IsLocal : List Name → List ℕ → ℕ → Type 0
 IsLocal [] x i = ⊥
