@@ -1,0 +1,4 @@
+pub mod Demands
+pub mod Bodies
+pub mod Laws
+pub mod Functions
