@@ -1,0 +1,4 @@
+pub mod BodyLaws
+pub mod FunctionLaws
+pub mod EntryLaws
+pub mod SpecificationLaws

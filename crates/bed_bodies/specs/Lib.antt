@@ -1,0 +1,5 @@
+pub mod Demands
+pub mod Bodies
+pub mod Laws
+pub mod Functions
+pub mod Entries
