@@ -1,2 +1,4 @@
 pub mod Paths
 pub mod States
+pub mod Points
+pub mod Parts

@@ -1,0 +1,446 @@
+//! The call at the end of a path's actions: `step` there.
+ghost use Rattle.std.specs.Prelude.{◌≡◌, ◌∷◌, ◌++◌, [], ◌+◌, ◌<◌, ◌≤◌, ◌==◌, ◌&&◌, length, nat_lt, take, drop, IfOk};
+ghost use Rattle.std.specs.Option.{option_copied};
+ghost use Rattle.bed_lang.specs.Lookups.{signature_named, label_signature, named_signature};
+ghost use Rattle.bed_lang.specs.Instances.{terms_with};
+ghost use Rattle.bed_deriv.specs.Checks.{first_failure};
+ghost use Rattle.bed_deriv.specs.Matches.{count_of_goals, match_goals, atoms_left};
+ghost use Rattle.bed_deriv.specs.Opening.{replacing, fresh_values};
+ghost use Rattle.bed_deriv.specs.Steps.{callee, code_goals, code_count, names_with, after_call, call};
+ghost use Rattle.bed_check_pure.specs.Faults.{AnswersRule};
+ghost use Rattle.bed_check_cond.specs.Points.{rest_of, called, AnswersStep};
+ghost use Rattle.bed_check_cond.specs.Parts.{call_counts, call_values, call_chosen, call_from, call_found, call_meets, opened_after, state_after, code_before};
+
+use crate::actions::fresh_word;
+use crate::operands::{operand_term, operand_terms, set_local};
+use crate::point::{Moved, Point};
+use crate::values::{push_fresh, push_names, push_terms, to_values};
+use bed_check_pure::Fault;
+use bed_deriv::choice::{all_different, atoms_left, chosen};
+use bed_deriv::matching::{count_of_atoms, has_goals_within, match_goals};
+use bed_deriv::read::read_terms;
+use bed_deriv::{DArg, Reading, SymState};
+use bed_lang::{
+    Arg, Assertion, Atom, Bind, Decls, List, Name, Operand, Pure, Signature, Term, Tree, Word,
+};
+use std::alloc::{AllocError, Global};
+
+const LIMIT: u64 = 4_294_967_296;
+
+/// A call as its path's goal has it.
+#[derive(Clone, Copy)]
+pub(crate) struct Call<'a> {
+    pub(crate) target: &'a Operand,
+    pub(crate) via: &'a Option<Name>,
+    pub(crate) operands: &'a [Operand],
+    pub(crate) into: &'a Name,
+    pub(crate) after: &'a Assertion,
+}
+
+/// The signature of a name.
+pub(crate) fn signature_named<'a>(decls: &'a Decls, name: &Name) -> Option<&'a Signature>
+    ensures { option_copied result ≡ signature_named decls.now name.now.bytes }
+{
+    decls
+        .signatures
+        .as_slice()
+        .iter()
+        .find(|s| s.name.same(name))
+}
+
+fn label_signature<'a>(decls: &'a Decls, label: &Name) -> Option<&'a Name>
+    ensures { option_copied result ≡ label_signature decls.now label.now.bytes }
+{
+    match decls.labels.as_slice().iter().find(|l| l.0.same(label)) {
+        None => None,
+        Some(found) => Some(&found.1),
+    }
+}
+
+/// The signature of a label.
+pub(crate) fn declared_signature<'a>(decls: &'a Decls, label: &Name) -> Option<&'a Signature>
+    ensures { option_copied result ≡ named_signature decls.now (label_signature decls.now label.now.bytes) }
+{
+    match label_signature(decls, label) {
+        None => None,
+        Some(name) => signature_named(decls, name),
+    }
+}
+
+// The signature of a callee: the one that is named, or that of the label.
+fn callee<'a>(decls: &'a Decls, target: &Operand, via: &Option<Name>) -> Option<&'a Signature>
+    ensures { option_copied result ≡ callee decls.now target.now via.now }
+{
+    match via {
+        Some(name) => signature_named(decls, name),
+        None => match target {
+            Operand::Label(f) => declared_signature(decls, f),
+            _ => None,
+        },
+    }
+}
+
+/// Whether there are as many as three counts together.
+#[tactic(auto, using(crate::proofs::CountLemmas::sum_of_three))]
+pub(crate) fn is_sum(n: usize, a: usize, b: usize, c: usize) -> bool
+    ensures { result ≡ (n == a + b + c) }
+{
+    a <= n && b <= n - a && c == n - a - b
+}
+
+/// Whether a match of these terms has exactly n goals.
+#[tactic(auto, using(crate::proofs::CountLemmas::exactly, crate::proofs::CountLemmas::exactly_none))]
+pub(crate) fn has_goals(terms: &[Term], n: usize) -> bool
+    ensures { result ≡ (n == count_of_goals terms.now) }
+{
+    if n == 0 {
+        return has_goals_within(terms, 0);
+    }
+    has_goals_within(terms, n) && !has_goals_within(terms, n - 1)
+}
+
+// Whether a call has so many children.
+#[tactic(auto, using(crate::proofs::CountLemmas::one_off, crate::proofs::CountLemmas::two_off, crate::proofs::CountLemmas::too_few))]
+fn has_children(via: &Option<Name>, terms: &[Term], n: usize) -> bool
+    ensures { result ≡ (n == code_count via.now + count_of_goals terms.now + 1) }
+{
+    match via {
+        None => n >= 1 && has_goals(terms, n - 1),
+        Some(_) => n >= 2 && has_goals(terms, n - 2),
+    }
+}
+
+fn counts_fit(s: &Signature, via: &Option<Name>, args: usize, n: usize) -> bool
+    ensures { result ≡ call_counts s.now via.now args n }
+{
+    is_sum(
+        args,
+        s.logical.len(),
+        s.pre.binders.len(),
+        count_of_atoms(s.pre.terms.as_slice()),
+    ) && has_children(via, s.pre.terms.as_slice(), n)
+}
+
+// The values under which a precondition is read.
+fn values_before(
+    alloc: Global,
+    s: &Signature,
+    vs: &List<(Name, Arg)>,
+    ws: &[Word],
+    bs: &List<(Name, Arg)>,
+) -> Result<List<(Name, Arg)>, AllocError>
+    ensures { IfOk result (λ r. r ≡ vs.now ++ names_with s.now.params ws.now ++ bs.now) }
+{
+    let mut out = vs.copied(alloc)?;
+    push_names(alloc, &mut out, s.params.as_slice(), ws)?;
+    let more = bs.copied(alloc)?;
+    out.append(more)?;
+    Ok(out)
+}
+
+// The values under which a postcondition is read.
+fn values_after(
+    alloc: Global,
+    s: &Signature,
+    vs: &List<(Name, Arg)>,
+    ws: &[Word],
+    next: u32,
+) -> Result<List<(Name, Arg)>, AllocError>
+    requires { next + length s.now.post.binders < 4294967296 }
+    ensures { IfOk result (λ r. r ≡ (vs.now ++ names_with s.now.params ws.now) ++ fresh_values s.now.post.binders next) }
+{
+    let mut out = vs.copied(alloc)?;
+    push_names(alloc, &mut out, s.params.as_slice(), ws)?;
+    push_fresh(alloc, &mut out, s.post.binders.as_slice(), next)?;
+    Ok(out)
+}
+
+// Whether the numbers of fresh variables suffice for an answer and these binders.
+#[tactic(auto, using(crate::proofs::CountLemmas::has_numbers_is))]
+fn has_numbers(next: u32, binders: usize) -> bool
+    ensures { result ≡ nat_lt (next + 1 + binders) 4294967296 }
+{
+    u64::from(next) < LIMIT - 1 && (binders as u64) < LIMIT - 1 - u64::from(next)
+}
+
+// The state without the atoms that are taken, with these locals.
+fn without_chosen(
+    alloc: Global,
+    s: &SymState,
+    cs: &[(u32, Atom)],
+    locals: List<(Name, Word)>,
+    next: u32,
+) -> Result<SymState, AllocError>
+    ensures { IfOk result (λ r. r ≡ record s.now { locals = locals; atoms = atoms_left cs.now 1 s.now.atoms; next = next }) }
+{
+    let facts = s.facts.copied(alloc)?;
+    let atoms = atoms_left(alloc, cs, s.atoms.as_slice())?;
+    Ok(SymState {
+        locals,
+        facts,
+        atoms,
+        next,
+    })
+}
+
+// The state behind a call, with these locals.
+fn opened_after(
+    alloc: Global,
+    state: &SymState,
+    s: &Signature,
+    ws: &[Word],
+    vs: &List<(Name, Arg)>,
+    cs: &[(u32, Atom)],
+    locals: List<(Name, Word)>,
+) -> Result<SymState, AllocError>
+    requires { state.now.next + 1 + length s.now.post.binders < 4294967296 }
+    ensures { IfOk result (λ r. r ≡ opened_after state.now s.now ws.now vs.now cs.now locals) }
+{
+    let answer = fresh_word(state.next);
+    let values = values_after(alloc, s, vs, ws, state.next + 1)?;
+    let next = state.next + 1 + s.post.binders.len() as u32;
+    let mut out = without_chosen(alloc, state, cs, locals, next)?;
+    let reading = Reading::Answer(&answer, values.as_slice());
+    push_terms(alloc, &mut out, &reading, s.post.terms.as_slice())?;
+    Ok(out)
+}
+
+// The same; None where there is no local for the answer.
+fn state_after(
+    alloc: Global,
+    state: &SymState,
+    s: &Signature,
+    ws: &[Word],
+    vs: &List<(Name, Arg)>,
+    cs: &[(u32, Atom)],
+    into: &Name,
+) -> Result<Option<SymState>, AllocError>
+    requires { state.now.next + 1 + length s.now.post.binders < 4294967296 }
+    ensures { IfOk result (λ r. r ≡ state_after state.now s.now ws.now vs.now cs.now into.now) }
+{
+    match set_local(alloc, state.locals.as_slice(), into, &fresh_word(state.next))? {
+        None => Ok(None),
+        Some(locals) => Ok(Some(opened_after(alloc, state, s, ws, vs, cs, locals)?)),
+    }
+}
+
+// What a call whose match is made leaves.
+#[tactic(auto, using(crate::proofs::CallLemmas::no_numbers, crate::proofs::CallLemmas::after_is))]
+fn after_call(
+    alloc: Global,
+    at: &Point,
+    call: &Call,
+    s: &Signature,
+    ws: &[Word],
+    vs: &List<(Name, Arg)>,
+    cs: &[(u32, Atom)],
+    goals: List<Pure>,
+) -> Result<Moved, Fault>
+    ensures { AnswersStep (called call.now.after.now) result (first_failure (after_call (rest_of at.now) s.now ws.now vs.now cs.now call.now.into.now call.now.after.now goals)) }
+{
+    if !has_numbers(at.state.next, s.post.binders.len()) {
+        return Err(Fault::Condition);
+    }
+    match state_after(alloc, &at.state, s, ws, vs, cs, call.into) {
+        Err(_) => Err(Fault::Memory),
+        Ok(None) => Err(Fault::Condition),
+        Ok(Some(state)) => Ok(Moved { goals, state }),
+    }
+}
+
+// That code with this signature stands at the target, where a name is given; and then the other goals.
+fn with_code(
+    alloc: Global,
+    via: &Option<Name>,
+    target: Word,
+    goals: List<Pure>,
+) -> Result<List<Pure>, AllocError>
+    ensures { IfOk result (λ r. r ≡ code_goals via.now target ++ goals) }
+{
+    match via {
+        None => Ok(goals),
+        Some(name) => {
+            let name = name.copy(alloc)?;
+            let mut out = List::new(alloc);
+            out.push(Pure::Code(target, name))?;
+            out.append(goals)?;
+            Ok(out)
+        }
+    }
+}
+
+// The goals of the match of a precondition; None where a term doesn't match.
+fn goals_before(
+    alloc: Global,
+    s: &Signature,
+    vs: &List<(Name, Arg)>,
+    ws: &[Word],
+    bs: &List<(Name, Arg)>,
+    cs: &[(u32, Atom)],
+) -> Result<Option<List<Pure>>, AllocError>
+    ensures { IfOk result (λ r. r ≡ match_goals (terms_with (replacing (vs.now ++ names_with s.now.params ws.now ++ bs.now)) s.now.pre.terms) cs.now) }
+{
+    let values = values_before(alloc, s, vs, ws, bs)?;
+    let reading = Reading::Names(values.as_slice());
+    let terms = read_terms(alloc, &reading, s.pre.terms.as_slice())?;
+    match_goals(alloc, terms.as_slice(), cs)
+}
+
+// The goals of a call, its code's among them.
+fn call_goals(
+    alloc: Global,
+    via: &Option<Name>,
+    s: &Signature,
+    vs: &List<(Name, Arg)>,
+    ws: &[Word],
+    bs: &List<(Name, Arg)>,
+    cs: &[(u32, Atom)],
+    target: Word,
+) -> Result<Option<List<Pure>>, AllocError>
+    ensures { IfOk result (λ r. r ≡ code_before via.now target (match_goals (terms_with (replacing (vs.now ++ names_with s.now.params ws.now ++ bs.now)) s.now.pre.terms) cs.now)) }
+{
+    match goals_before(alloc, s, vs, ws, bs, cs)? {
+        None => Ok(None),
+        Some(goals) => Ok(Some(with_code(alloc, via, target, goals)?)),
+    }
+}
+
+// A call whose values, atoms and words are found.
+#[tactic(auto, using(crate::proofs::CallLemmas::meets_is))]
+fn call_meets(
+    alloc: Global,
+    at: &Point,
+    call: &Call,
+    s: &Signature,
+    vs: &List<(Name, Arg)>,
+    bs: &List<(Name, Arg)>,
+    cs: &[(u32, Atom)],
+    ws: &[Word],
+    target: Word,
+) -> Result<Moved, Fault>
+    ensures { AnswersStep (called call.now.after.now) result (first_failure (call_meets (rest_of at.now) s.now call.now.via.now call.now.into.now call.now.after.now vs.now bs.now cs.now ws.now target)) }
+{
+    if !all_different(cs) {
+        return Err(Fault::Condition);
+    }
+    match call_goals(alloc, call.via, s, vs, ws, bs, cs, target) {
+        Err(_) => Err(Fault::Memory),
+        Ok(None) => Err(Fault::Condition),
+        Ok(Some(goals)) => after_call(alloc, at, call, s, ws, vs, cs, goals),
+    }
+}
+
+// A call whose values and atoms are found.
+fn call_found(
+    alloc: Global,
+    at: &Point,
+    call: &Call,
+    s: &Signature,
+    vs: &List<(Name, Arg)>,
+    bs: &List<(Name, Arg)>,
+    cs: &[(u32, Atom)],
+) -> Result<Moved, Fault>
+    ensures { AnswersStep (called call.now.after.now) result (first_failure (call_found (rest_of at.now) s.now call.now.target.now call.now.via.now call.now.operands.now call.now.into.now call.now.after.now vs.now bs.now cs.now)) }
+{
+    let locals = at.state.locals.as_slice();
+    let ws = match operand_terms(alloc, locals, call.operands) {
+        Err(_) => return Err(Fault::Memory),
+        Ok(None) => return Err(Fault::Condition),
+        Ok(Some(ws)) => ws,
+    };
+    if ws.len() != s.params.len() {
+        return Err(Fault::Condition);
+    }
+    match operand_term(alloc, locals, call.target) {
+        Err(_) => Err(Fault::Memory),
+        Ok(None) => Err(Fault::Condition),
+        Ok(Some(target)) => call_meets(alloc, at, call, s, vs, bs, cs, ws.as_slice(), target),
+    }
+}
+
+// The values of the callee's logical variables and of the precondition's binders; the first premise that
+// fails where there are none.
+fn call_values(
+    alloc: Global,
+    state: &SymState,
+    s: &Signature,
+    args: &[DArg],
+) -> Result<(List<(Name, Arg)>, List<(Name, Arg)>), Fault>
+    requires { length s.now.logical + length s.now.pre.binders ≤ length args.now }
+    ensures { AnswersRule result (first_failure (call_values state.now s.now args.now)) }
+{
+    let (logical, more) = args.split_at(s.logical.len());
+    let vs = match to_values(alloc, state, s.logical.as_slice(), logical) {
+        Err(_) => return Err(Fault::Memory),
+        Ok(None) => return Err(Fault::Argument),
+        Ok(Some(vs)) => vs,
+    };
+    let binders = &more[..s.pre.binders.len()];
+    match to_values(alloc, state, s.pre.binders.as_slice(), binders) {
+        Err(_) => Err(Fault::Memory),
+        Ok(None) => Err(Fault::Argument),
+        Ok(Some(bs)) => Ok((vs, bs)),
+    }
+}
+
+// A call whose values are found.
+fn call_chosen(
+    alloc: Global,
+    at: &Point,
+    call: &Call,
+    s: &Signature,
+    vs: &List<(Name, Arg)>,
+    bs: &List<(Name, Arg)>,
+    args: &[DArg],
+) -> Result<Moved, Fault>
+    ensures { AnswersStep (called call.now.after.now) result (first_failure (call_chosen (rest_of at.now) s.now call.now.target.now call.now.via.now call.now.operands.now call.now.into.now call.now.after.now vs.now bs.now args.now)) }
+{
+    match chosen(alloc, at.state.atoms.as_slice(), args) {
+        Err(_) => Err(Fault::Memory),
+        Ok(None) => Err(Fault::Argument),
+        Ok(Some(cs)) => call_found(alloc, at, call, s, vs, bs, cs.as_slice()),
+    }
+}
+
+// A call of a signature, its counts being right.
+#[tactic(auto, using(crate::proofs::CallLemmas::valued, crate::proofs::CallLemmas::unvalued))]
+fn call_from(
+    alloc: Global,
+    at: &Point,
+    call: &Call,
+    s: &Signature,
+    args: &[DArg],
+) -> Result<Moved, Fault>
+    requires { length s.now.logical + length s.now.pre.binders ≤ length args.now }
+    ensures { AnswersStep (called call.now.after.now) result (first_failure (call_from (rest_of at.now) s.now call.now.target.now call.now.via.now call.now.operands.now call.now.into.now call.now.after.now args.now)) }
+{
+    let (vs, bs) = call_values(alloc, &at.state, s, args)?;
+    let atoms = &args[s.logical.len() + s.pre.binders.len()..];
+    call_chosen(alloc, at, call, s, &vs, &bs, atoms)
+}
+
+/// The call at the end of a path's actions.
+///
+/// # Errors
+/// The first premise that fails; `Memory` for want of memory.
+#[tactic(auto, using(crate::proofs::CallLemmas::counted))]
+pub(crate) fn call(
+    alloc: Global,
+    decls: &Decls,
+    at: &Point,
+    call: &Call,
+    args: &[DArg],
+    n: usize,
+) -> Result<Moved, Fault>
+    ensures { AnswersStep (called call.now.after.now) result (first_failure (call decls.now (rest_of at.now) call.now.target.now call.now.via.now call.now.operands.now call.now.into.now call.now.after.now args.now n)) }
+{
+    match callee(decls, call.target, call.via) {
+        None => Err(Fault::Condition),
+        Some(s) => {
+            if !counts_fit(s, call.via, args.len(), n) {
+                return Err(Fault::Count);
+            }
+            call_from(alloc, at, call, s, args)
+        }
+    }
+}
