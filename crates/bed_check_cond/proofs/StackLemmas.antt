@@ -5,7 +5,7 @@ use Rattle.bed_check_cond.specs.Stack.{left_walk}
 
 module _ {F : Type 0} (walk : F → ℕ → Walked) where
   -- the last node of the list is the next
-  left_last : (fs : List F) (f : F) (w : Walked) → left_walk walk (fs ++ f ∷ []) w ≡ left_walk walk fs (and_then w (walk f))
+  pub left_last : (fs : List F) (f : F) (w : Walked) → left_walk walk (fs ++ f ∷ []) w ≡ left_walk walk fs (and_then w (walk f))
   left_last [] f w = refl
   left_last (g ∷ fs) f w = ap (λ (v : Walked). and_then v (walk g)) (left_last fs f w)
 

@@ -1,5 +1,5 @@
 -- The rest of a step behind its first premises, given what these found.
-use Rattle.std.specs.Prelude.{◌≡◌, ℕ, ◌+◌, ◌&&◌, ◌==◌, Bool, true, false, List, [], ◌∷◌, ◌++◌, length, map, take, drop, Option, Some, None, bit_and, bit_or, bit_xor}
+use Rattle.std.specs.Prelude.{◌≡◌, ℕ, ◌+◌, ◌&&◌, ◌==◌, if◌then◌else◌, Bool, true, false, List, [], ◌∷◌, ◌++◌, length, map, take, drop, Option, Some, None, bit_and, bit_or, bit_xor}
 use Rattle.bed_lang.specs.declared.word.Name.{Name}
 use Rattle.bed_lang.specs.declared.word.Word.{Word, Number}
 use Rattle.bed_lang.specs.declared.logic.Arg.{Arg}
@@ -97,11 +97,13 @@ call_meets r S via into after vs bs cs ws t =
     (Given 3 (match_goals (terms_with (replacing (vs ++ names_with S.params ws ++ bs)) S.pre.terms) cs) (λ gs.
     after_call r S ws vs cs into after (code_goals via t ++ gs)))
 
+abbrev pub call_worded : Rest → Signature → Operand → Option Name → Name → Assertion → List (Name × Arg) → List (Name × Arg) → List (ℕ × Atom) → List Word → Path
+call_worded r S target via into after vs bs cs ws =
+    Needs 3 (length ws == length S.params) (Given 3 (operand_term r.state.locals target) (λ t. call_meets r S via into after vs bs cs ws t))
+
 abbrev pub call_found : Rest → Signature → Operand → Option Name → List Operand → Name → Assertion → List (Name × Arg) → List (Name × Arg) → List (ℕ × Atom) → Path
 call_found r S target via operands into after vs bs cs =
-    let s = r.state in
-    Given 3 (operand_terms s.locals operands) (λ ws. Needs 3 (length ws == length S.params) (Given 3 (operand_term s.locals target) (λ t.
-    call_meets r S via into after vs bs cs ws t)))
+    Given 3 (operand_terms r.state.locals operands) (λ ws. call_worded r S target via into after vs bs cs ws)
 
 abbrev pub call_chosen : Rest → Signature → Operand → Option Name → List Operand → Name → Assertion → List (Name × Arg) → List (Name × Arg) → List DArg → Path
 call_chosen r S target via operands into after vs bs args =

@@ -70,8 +70,8 @@ fn with_fresh_byte(
     number: u32,
     address: &Word,
 ) -> Result<SymState, AllocError>
-    requires { number - 1 < length s.now.atoms }
-    requires { s.now.next < 4294967295 }
+    requires number { number - 1 < length s.now.atoms }
+    requires room { s.now.next < 4294967295 }
     ensures { IfOk result (λ r. r ≡ with_next (with_atom_at s.now number (Atom.Byte address.now (fresh_word s.now.next))) 1) }
 {
     let mut state = with_byte(alloc, s, number, address, fresh_word(s.next))?;

@@ -1,5 +1,5 @@
 //! The call at the end of a path's actions: `step` there.
-ghost use Rattle.std.specs.Prelude.{◌≡◌, ◌∷◌, ◌++◌, [], ◌+◌, ◌<◌, ◌≤◌, ◌==◌, ◌&&◌, length, nat_lt, take, drop, IfOk};
+ghost use Rattle.std.specs.Prelude.{◌≡◌, ◌∷◌, ◌++◌, [], ◌+◌, ◌<◌, ◌≤◌, ◌==◌, length, nat_lt, take, drop, IfOk};
 ghost use Rattle.std.specs.Option.{option_copied};
 ghost use Rattle.bed_lang.specs.Lookups.{signature_named, label_signature, named_signature};
 ghost use Rattle.bed_lang.specs.Instances.{terms_with};
@@ -9,7 +9,7 @@ ghost use Rattle.bed_deriv.specs.Opening.{replacing, fresh_values};
 ghost use Rattle.bed_deriv.specs.Steps.{callee, code_goals, code_count, names_with, after_call, call};
 ghost use Rattle.bed_check_pure.specs.Faults.{AnswersRule};
 ghost use Rattle.bed_check_cond.specs.Points.{rest_of, called, AnswersStep};
-ghost use Rattle.bed_check_cond.specs.Parts.{call_counts, call_values, call_chosen, call_from, call_found, call_meets, opened_after, state_after, code_before};
+ghost use Rattle.bed_check_cond.specs.Parts.{call_counts, call_values, call_chosen, call_from, call_found, call_worded, call_meets, opened_after, state_after, code_before};
 
 use crate::actions::fresh_word;
 use crate::operands::{operand_term, operand_terms, set_local};
@@ -29,7 +29,7 @@ const LIMIT: u64 = 4_294_967_296;
 
 /// A call as its path's goal has it.
 #[derive(Clone, Copy)]
-pub(crate) struct Call<'a> {
+pub(crate) struct CallSite<'a> {
     pub(crate) target: &'a Operand,
     pub(crate) via: &'a Option<Name>,
     pub(crate) operands: &'a [Operand],
@@ -81,32 +81,62 @@ fn callee<'a>(decls: &'a Decls, target: &Operand, via: &Option<Name>) -> Option<
 }
 
 /// Whether there are as many as three counts together.
-#[tactic(auto, using(crate::proofs::CountLemmas::sum_of_three))]
+#[tactic(auto, using(crate::proofs::CountLemmas::sum_is, crate::proofs::CountLemmas::first_past, crate::proofs::CountLemmas::second_past))]
 pub(crate) fn is_sum(n: usize, a: usize, b: usize, c: usize) -> bool
     ensures { result ≡ (n == a + b + c) }
 {
-    a <= n && b <= n - a && c == n - a - b
+    if a > n {
+        return false;
+    }
+    if b > n - a {
+        return false;
+    }
+    c == n - a - b
 }
 
 /// Whether a match of these terms has exactly n goals.
-#[tactic(auto, using(crate::proofs::CountLemmas::exactly, crate::proofs::CountLemmas::exactly_none))]
+#[tactic(auto, using(crate::proofs::CountLemmas::none_is, crate::proofs::CountLemmas::exactly, crate::proofs::CountLemmas::more))]
 pub(crate) fn has_goals(terms: &[Term], n: usize) -> bool
     ensures { result ≡ (n == count_of_goals terms.now) }
 {
     if n == 0 {
         return has_goals_within(terms, 0);
     }
-    has_goals_within(terms, n) && !has_goals_within(terms, n - 1)
+    if !has_goals_within(terms, n) {
+        return false;
+    }
+    !has_goals_within(terms, n - 1)
+}
+
+// Whether there is one child more than a match of these terms has goals.
+#[tactic(auto, using(crate::proofs::CountLemmas::one_more, crate::proofs::CountLemmas::none_one))]
+fn has_one_more(terms: &[Term], n: usize) -> bool
+    ensures { result ≡ (n == 0 + count_of_goals terms.now + 1) }
+{
+    if n < 1 {
+        return false;
+    }
+    has_goals(terms, n - 1)
+}
+
+// Whether there are two children more.
+#[tactic(auto, using(crate::proofs::CountLemmas::two_more, crate::proofs::CountLemmas::none_two))]
+fn has_two_more(terms: &[Term], n: usize) -> bool
+    ensures { result ≡ (n == 1 + count_of_goals terms.now + 1) }
+{
+    if n < 2 {
+        return false;
+    }
+    has_goals(terms, n - 2)
 }
 
 // Whether a call has so many children.
-#[tactic(auto, using(crate::proofs::CountLemmas::one_off, crate::proofs::CountLemmas::two_off, crate::proofs::CountLemmas::too_few))]
 fn has_children(via: &Option<Name>, terms: &[Term], n: usize) -> bool
     ensures { result ≡ (n == code_count via.now + count_of_goals terms.now + 1) }
 {
     match via {
-        None => n >= 1 && has_goals(terms, n - 1),
-        Some(_) => n >= 2 && has_goals(terms, n - 2),
+        None => has_one_more(terms, n),
+        Some(_) => has_two_more(terms, n),
     }
 }
 
@@ -156,11 +186,11 @@ fn values_after(
 }
 
 // Whether the numbers of fresh variables suffice for an answer and these binders.
-#[tactic(auto, using(crate::proofs::CountLemmas::has_numbers_is))]
+#[tactic(auto, using(crate::proofs::CountLemmas::numbers_left))]
 fn has_numbers(next: u32, binders: usize) -> bool
     ensures { result ≡ nat_lt (next + 1 + binders) 4294967296 }
 {
-    u64::from(next) < LIMIT - 1 && (binders as u64) < LIMIT - 1 - u64::from(next)
+    (binders as u64) < LIMIT - (u64::from(next) + 1)
 }
 
 // The state without the atoms that are taken, with these locals.
@@ -225,23 +255,23 @@ fn state_after(
 }
 
 // What a call whose match is made leaves.
-#[tactic(auto, using(crate::proofs::CallLemmas::no_numbers, crate::proofs::CallLemmas::after_is))]
+#[tactic(auto, using(crate::proofs::CallLemmas::no_numbers, crate::proofs::CallLemmas::no_local, crate::proofs::CallLemmas::with_answer_in))]
 fn after_call(
     alloc: Global,
     at: &Point,
-    call: &Call,
+    site: &CallSite,
     s: &Signature,
     ws: &[Word],
     vs: &List<(Name, Arg)>,
     cs: &[(u32, Atom)],
     goals: List<Pure>,
 ) -> Result<Moved, Fault>
-    ensures { AnswersStep (called call.now.after.now) result (first_failure (after_call (rest_of at.now) s.now ws.now vs.now cs.now call.now.into.now call.now.after.now goals)) }
+    ensures { AnswersStep (called site.now.after.now) result (first_failure (after_call (rest_of at.now) s.now ws.now vs.now cs.now site.now.into.now site.now.after.now goals)) }
 {
     if !has_numbers(at.state.next, s.post.binders.len()) {
         return Err(Fault::Condition);
     }
-    match state_after(alloc, &at.state, s, ws, vs, cs, call.into) {
+    match state_after(alloc, &at.state, s, ws, vs, cs, site.into) {
         Err(_) => Err(Fault::Memory),
         Ok(None) => Err(Fault::Condition),
         Ok(Some(state)) => Ok(Moved { goals, state }),
@@ -306,11 +336,10 @@ fn call_goals(
 }
 
 // A call whose values, atoms and words are found.
-#[tactic(auto, using(crate::proofs::CallLemmas::meets_is))]
 fn call_meets(
     alloc: Global,
     at: &Point,
-    call: &Call,
+    site: &CallSite,
     s: &Signature,
     vs: &List<(Name, Arg)>,
     bs: &List<(Name, Arg)>,
@@ -318,15 +347,38 @@ fn call_meets(
     ws: &[Word],
     target: Word,
 ) -> Result<Moved, Fault>
-    ensures { AnswersStep (called call.now.after.now) result (first_failure (call_meets (rest_of at.now) s.now call.now.via.now call.now.into.now call.now.after.now vs.now bs.now cs.now ws.now target)) }
+    ensures { AnswersStep (called site.now.after.now) result (first_failure (call_meets (rest_of at.now) s.now site.now.via.now site.now.into.now site.now.after.now vs.now bs.now cs.now ws.now target)) }
 {
     if !all_different(cs) {
         return Err(Fault::Condition);
     }
-    match call_goals(alloc, call.via, s, vs, ws, bs, cs, target) {
+    match call_goals(alloc, site.via, s, vs, ws, bs, cs, target) {
         Err(_) => Err(Fault::Memory),
         Ok(None) => Err(Fault::Condition),
-        Ok(Some(goals)) => after_call(alloc, at, call, s, ws, vs, cs, goals),
+        Ok(Some(goals)) => after_call(alloc, at, site, s, ws, vs, cs, goals),
+    }
+}
+
+// A call whose values, atoms and operands are found.
+fn call_worded(
+    alloc: Global,
+    at: &Point,
+    site: &CallSite,
+    s: &Signature,
+    vs: &List<(Name, Arg)>,
+    bs: &List<(Name, Arg)>,
+    cs: &[(u32, Atom)],
+    ws: &[Word],
+) -> Result<Moved, Fault>
+    ensures { AnswersStep (called site.now.after.now) result (first_failure (call_worded (rest_of at.now) s.now site.now.target.now site.now.via.now site.now.into.now site.now.after.now vs.now bs.now cs.now ws.now)) }
+{
+    if ws.len() != s.params.len() {
+        return Err(Fault::Condition);
+    }
+    match operand_term(alloc, at.state.locals.as_slice(), site.target) {
+        Err(_) => Err(Fault::Memory),
+        Ok(None) => Err(Fault::Condition),
+        Ok(Some(target)) => call_meets(alloc, at, site, s, vs, bs, cs, ws, target),
     }
 }
 
@@ -334,27 +386,18 @@ fn call_meets(
 fn call_found(
     alloc: Global,
     at: &Point,
-    call: &Call,
+    site: &CallSite,
     s: &Signature,
     vs: &List<(Name, Arg)>,
     bs: &List<(Name, Arg)>,
     cs: &[(u32, Atom)],
 ) -> Result<Moved, Fault>
-    ensures { AnswersStep (called call.now.after.now) result (first_failure (call_found (rest_of at.now) s.now call.now.target.now call.now.via.now call.now.operands.now call.now.into.now call.now.after.now vs.now bs.now cs.now)) }
+    ensures { AnswersStep (called site.now.after.now) result (first_failure (call_found (rest_of at.now) s.now site.now.target.now site.now.via.now site.now.operands.now site.now.into.now site.now.after.now vs.now bs.now cs.now)) }
 {
-    let locals = at.state.locals.as_slice();
-    let ws = match operand_terms(alloc, locals, call.operands) {
-        Err(_) => return Err(Fault::Memory),
-        Ok(None) => return Err(Fault::Condition),
-        Ok(Some(ws)) => ws,
-    };
-    if ws.len() != s.params.len() {
-        return Err(Fault::Condition);
-    }
-    match operand_term(alloc, locals, call.target) {
+    match operand_terms(alloc, at.state.locals.as_slice(), site.operands) {
         Err(_) => Err(Fault::Memory),
         Ok(None) => Err(Fault::Condition),
-        Ok(Some(target)) => call_meets(alloc, at, call, s, vs, bs, cs, ws.as_slice(), target),
+        Ok(Some(ws)) => call_worded(alloc, at, site, s, vs, bs, cs, ws.as_slice()),
     }
 }
 
@@ -387,18 +430,18 @@ fn call_values(
 fn call_chosen(
     alloc: Global,
     at: &Point,
-    call: &Call,
+    site: &CallSite,
     s: &Signature,
     vs: &List<(Name, Arg)>,
     bs: &List<(Name, Arg)>,
     args: &[DArg],
 ) -> Result<Moved, Fault>
-    ensures { AnswersStep (called call.now.after.now) result (first_failure (call_chosen (rest_of at.now) s.now call.now.target.now call.now.via.now call.now.operands.now call.now.into.now call.now.after.now vs.now bs.now args.now)) }
+    ensures { AnswersStep (called site.now.after.now) result (first_failure (call_chosen (rest_of at.now) s.now site.now.target.now site.now.via.now site.now.operands.now site.now.into.now site.now.after.now vs.now bs.now args.now)) }
 {
     match chosen(alloc, at.state.atoms.as_slice(), args) {
         Err(_) => Err(Fault::Memory),
         Ok(None) => Err(Fault::Argument),
-        Ok(Some(cs)) => call_found(alloc, at, call, s, vs, bs, cs.as_slice()),
+        Ok(Some(cs)) => call_found(alloc, at, site, s, vs, bs, cs.as_slice()),
     }
 }
 
@@ -407,40 +450,39 @@ fn call_chosen(
 fn call_from(
     alloc: Global,
     at: &Point,
-    call: &Call,
+    site: &CallSite,
     s: &Signature,
     args: &[DArg],
 ) -> Result<Moved, Fault>
     requires { length s.now.logical + length s.now.pre.binders ≤ length args.now }
-    ensures { AnswersStep (called call.now.after.now) result (first_failure (call_from (rest_of at.now) s.now call.now.target.now call.now.via.now call.now.operands.now call.now.into.now call.now.after.now args.now)) }
+    ensures { AnswersStep (called site.now.after.now) result (first_failure (call_from (rest_of at.now) s.now site.now.target.now site.now.via.now site.now.operands.now site.now.into.now site.now.after.now args.now)) }
 {
     let (vs, bs) = call_values(alloc, &at.state, s, args)?;
     let atoms = &args[s.logical.len() + s.pre.binders.len()..];
-    call_chosen(alloc, at, call, s, &vs, &bs, atoms)
+    call_chosen(alloc, at, site, s, &vs, &bs, atoms)
 }
 
 /// The call at the end of a path's actions.
 ///
 /// # Errors
 /// The first premise that fails; `Memory` for want of memory.
-#[tactic(auto, using(crate::proofs::CallLemmas::counted))]
 pub(crate) fn call(
     alloc: Global,
     decls: &Decls,
     at: &Point,
-    call: &Call,
+    site: &CallSite,
     args: &[DArg],
     n: usize,
 ) -> Result<Moved, Fault>
-    ensures { AnswersStep (called call.now.after.now) result (first_failure (call decls.now (rest_of at.now) call.now.target.now call.now.via.now call.now.operands.now call.now.into.now call.now.after.now args.now n)) }
+    ensures { AnswersStep (called site.now.after.now) result (first_failure (call decls.now (rest_of at.now) site.now.target.now site.now.via.now site.now.operands.now site.now.into.now site.now.after.now args.now n)) }
 {
-    match callee(decls, call.target, call.via) {
+    match callee(decls, site.target, site.via) {
         None => Err(Fault::Condition),
         Some(s) => {
-            if !counts_fit(s, call.via, args.len(), n) {
+            if !counts_fit(s, site.via, args.len(), n) {
                 return Err(Fault::Count);
             }
-            call_from(alloc, at, call, s, args)
+            call_from(alloc, at, site, s, args)
         }
     }
 }

@@ -3,7 +3,7 @@ ghost use Rattle.std.specs.Prelude.{◌<◌, IsTrue, OnOk};
 ghost use Rattle.bed_sat.specs.Valid.{IsValid};
 ghost use Rattle.bed_deriv.specs.Fresh.{AreUnfresh, unfresh_condition, condition_size};
 ghost use Rattle.bed_check_pure.specs.Answers.{Answers};
-ghost use Rattle.bed_check_cond.specs.Answered.{checked_by};
+ghost use Rattle.bed_deriv.specs.Derives.{checked};
 
 use crate::point::{Ahead, Aim, Point};
 use crate::rests::rest_walked;
@@ -12,7 +12,7 @@ use bed_deriv::{Deriv, start};
 use bed_lang::{Cond, Decls};
 use std::alloc::Global;
 
-fn checked<'a>(
+fn checked_tree<'a>(
     alloc: Global,
     decls: &Decls,
     c: &'a Cond,
@@ -21,7 +21,7 @@ fn checked<'a>(
     requires sizes { condition_size c.now < 4294967295 }
     requires condition { IsTrue (unfresh_condition c.now) }
     requires declarations { AreUnfresh decls.now }
-    ensures { Answers result (checked_by decls.now c.now d.now) }
+    ensures { Answers result (checked decls.now c.now d.now) }
 {
     let Ok(state) = start(alloc, c, decls) else {
         return Err(Verdict::Memory);
@@ -51,8 +51,8 @@ pub fn check<'a>(
     requires sizes { condition_size c.now < 4294967295 }
     requires condition { IsTrue (unfresh_condition c.now) }
     requires declarations { AreUnfresh decls.now }
-    ensures exact { Answers result (checked_by decls.now c.now d.now) }
+    ensures exact { Answers result (checked decls.now c.now d.now) }
     ensures sound { OnOk result (IsValid decls.now c.now) }
 {
-    checked(alloc, decls, c, d)
+    checked_tree(alloc, decls, c, d)
 }

@@ -106,7 +106,7 @@ fn bits_of(alloc: Global, op: Op, a: &Word, b: &Word) -> Result<Option<Word>, Al
 ///
 /// # Errors
 /// `AllocError` for want of memory, and where a form has more than 8,192 parts.
-#[tactic(auto, using(crate::proofs::ComputedLemmas::bits_are))]
+#[tactic(auto, using(crate::proofs::ComputedLemmas::and_is, crate::proofs::ComputedLemmas::or_is, crate::proofs::ComputedLemmas::xor_is))]
 pub(crate) fn computed(
     alloc: Global,
     op: Op,
@@ -119,6 +119,8 @@ pub(crate) fn computed(
         Op::Add => Ok(Some(sum(alloc, a, b)?)),
         Op::Sub => Ok(Some(difference(alloc, a, b)?)),
         Op::Mul => product(alloc, a, b),
-        _ => bits_of(alloc, op, a, b),
+        Op::And => bits_of(alloc, Op::And, a, b),
+        Op::Or => bits_of(alloc, Op::Or, a, b),
+        Op::Xor => bits_of(alloc, Op::Xor, a, b),
     }
 }

@@ -56,6 +56,21 @@ fn end_meets(
     }
 }
 
+// The locals' terms, and the values of an assertion's binders.
+fn met_values(
+    alloc: Global,
+    s: &SymState,
+    bs: &List<(Name, Arg)>,
+) -> Result<List<(Name, Arg)>, AllocError>
+    ensures { IfOk result (λ r. r ≡ local_values s.now.locals ++ bs.now) }
+{
+    let mut values = List::new(alloc);
+    push_locals(alloc, &mut values, s.locals.as_slice())?;
+    let more = bs.copied(alloc)?;
+    values.append(more)?;
+    Ok(values)
+}
+
 // The terms of an assertion, read with the locals' terms.
 fn met_terms(
     alloc: Global,
@@ -65,12 +80,26 @@ fn met_terms(
 ) -> Result<List<Term>, AllocError>
     ensures { IfOk result (λ r. r ≡ met_terms s.now bs.now terms.now) }
 {
-    let mut values = List::new(alloc);
-    push_locals(alloc, &mut values, s.locals.as_slice())?;
-    let more = bs.copied(alloc)?;
-    values.append(more)?;
+    let values = met_values(alloc, s, bs)?;
     let reading = Reading::Names(values.as_slice());
     read_terms(alloc, &reading, terms)
+}
+
+// The locals' terms, the arguments' values at entry, and the values of an assertion's binders.
+fn returned_values(
+    alloc: Global,
+    s: &SymState,
+    params: &[Name],
+    bs: &List<(Name, Arg)>,
+) -> Result<List<(Name, Arg)>, AllocError>
+    ensures { IfOk result (λ r. r ≡ local_values s.now.locals ++ names_with params.now (map old_word params.now) ++ bs.now) }
+{
+    let mut values = List::new(alloc);
+    push_locals(alloc, &mut values, s.locals.as_slice())?;
+    push_old(alloc, &mut values, params)?;
+    let more = bs.copied(alloc)?;
+    values.append(more)?;
+    Ok(values)
 }
 
 // The terms of a postcondition, read with the locals' terms, the arguments' values at entry and the answer.
@@ -84,11 +113,7 @@ fn returned_terms(
 ) -> Result<List<Term>, AllocError>
     ensures { IfOk result (λ r. r ≡ returned_terms s.now params.now w.now bs.now terms.now) }
 {
-    let mut values = List::new(alloc);
-    push_locals(alloc, &mut values, s.locals.as_slice())?;
-    push_old(alloc, &mut values, params)?;
-    let more = bs.copied(alloc)?;
-    values.append(more)?;
+    let values = returned_values(alloc, s, params, bs)?;
     let reading = Reading::Answer(w, values.as_slice());
     read_terms(alloc, &reading, terms)
 }
@@ -112,7 +137,26 @@ fn met_found(
     }
 }
 
+// The end of a path at a return of this word, its binders' values and its atoms being found.
+fn returned_with(
+    alloc: Global,
+    state: &SymState,
+    s: &Signature,
+    w: &Word,
+    bs: &List<(Name, Arg)>,
+    cs: &[(u32, Atom)],
+) -> Result<List<Pure>, Fault>
+    ensures { AnswersStep ended result (first_failure (end_meets state.now (returned_terms state.now s.now.params w.now bs.now s.now.post.terms) cs.now)) }
+{
+    let params = s.params.as_slice();
+    match returned_terms(alloc, state, params, w, bs, s.post.terms.as_slice()) {
+        Err(_) => Err(Fault::Memory),
+        Ok(terms) => end_meets(alloc, state, terms.as_slice(), cs),
+    }
+}
+
 // The end of a path at a return, its binders' values and its atoms being found.
+#[tactic(auto, using(crate::proofs::EndLemmas::returned_none, crate::proofs::EndLemmas::returned_some))]
 fn returned_found(
     alloc: Global,
     at: &Point,
@@ -126,15 +170,10 @@ fn returned_found(
     if at.ahead.actions.len() != 0 {
         return Err(Fault::Condition);
     }
-    let w = match operand_term(alloc, at.state.locals.as_slice(), a) {
-        Err(_) => return Err(Fault::Memory),
-        Ok(None) => return Err(Fault::Condition),
-        Ok(Some(w)) => w,
-    };
-    let post = s.post.terms.as_slice();
-    match returned_terms(alloc, &at.state, s.params.as_slice(), &w, bs, post) {
+    match operand_term(alloc, at.state.locals.as_slice(), a) {
         Err(_) => Err(Fault::Memory),
-        Ok(terms) => end_meets(alloc, &at.state, terms.as_slice(), cs),
+        Ok(None) => Err(Fault::Condition),
+        Ok(Some(w)) => returned_with(alloc, &at.state, s, &w, bs, cs),
     }
 }
 
@@ -168,7 +207,7 @@ fn end_values(
 }
 
 // The end of a path at an assertion.
-#[tactic(auto, using(crate::proofs::EndLemmas::found, crate::proofs::EndLemmas::refused))]
+#[tactic(auto, using(crate::proofs::EndLemmas::end_valued, crate::proofs::EndLemmas::end_unvalued))]
 fn meets(
     alloc: Global,
     at: &Point,
@@ -183,7 +222,7 @@ fn meets(
 }
 
 // The end of a path at a return.
-#[tactic(auto, using(crate::proofs::EndLemmas::found, crate::proofs::EndLemmas::refused))]
+#[tactic(auto, using(crate::proofs::EndLemmas::end_valued, crate::proofs::EndLemmas::end_unvalued))]
 fn returns(
     alloc: Global,
     at: &Point,

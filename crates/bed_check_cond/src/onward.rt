@@ -3,13 +3,14 @@ ghost use Rattle.std.specs.Prelude.{◌≡◌, ◌∷◌, [], drop, Ok, IfOk};
 ghost use Rattle.bed_deriv.specs.Checks.{with_room};
 ghost use Rattle.bed_deriv.specs.Steps.{act, call, step, finish, onward_states, onward_of};
 ghost use Rattle.bed_check_cond.specs.Points.{rest_of, gone_on, onward_left, AnswersBy};
-ghost use Rattle.bed_check_cond.specs.Answered.{state_rules, changed, onward_at};
+ghost use Rattle.bed_check_cond.specs.Answered.{changed, onward_at};
+ghost use Rattle.bed_check_heap.specs.Steps.{state_table};
 
 use crate::actions::act;
-use crate::calls::{Call, call};
+use crate::calls::{CallSite, call};
 use crate::ends::finish;
 use crate::point::{Ahead, Aim, Left, Moved, Point};
-use bed_check_heap::built_rule;
+use bed_check_heap::state_rule;
 use bed_check_pure::Fault;
 use bed_deriv::{DArg, Remainder, Rule, SymState};
 use bed_lang::{Action, Decls, Goal, List, Name};
@@ -68,7 +69,7 @@ fn step_call<'a>(
     alloc: Global,
     decls: &Decls,
     at: &Point<'a>,
-    made: Call<'a>,
+    made: CallSite<'a>,
     args: &[DArg],
     n: usize,
 ) -> Result<Left<'a>, Fault>
@@ -104,7 +105,7 @@ fn step<'a>(
                 into,
                 after,
             }) => {
-                let made = Call {
+                let made = CallSite {
                     target,
                     via,
                     operands: operands.as_slice(),
@@ -148,9 +149,9 @@ fn change<'a>(
     args: &[DArg],
     n: usize,
 ) -> Result<Left<'a>, Fault>
-    ensures { AnswersBy onward_left result (changed (rest_of at.now) (state_rules decls.now rule at.now.state args.now n)) }
+    ensures { AnswersBy onward_left result (changed (rest_of at.now) (state_table decls.now rule at.now.state args.now n)) }
 {
-    match built_rule(alloc, decls, rule, &at.state, args, n) {
+    match state_rule(alloc, decls, rule, &at.state, args, n) {
         Err(fault) => Err(fault),
         Ok(Remainder { goals, states }) => Ok(Left {
             goals,

@@ -1,11 +1,10 @@
 //! The walk along the rest of a condition, with a list of its own in place of recursion.
 ghost use Rattle.std.specs.Prelude.{◌≡◌, ◌∷◌, ◌++◌, [], ◌<◌, ◌≤◌, length, map, drop, slice_get, remove, Some, IfOk, OnOk};
 ghost use Rattle.bed_deriv.specs.declared.rest.Task.TheVariants.{Closes};
-ghost use Rattle.bed_deriv.specs.Derives.{facts_to_prove};
+ghost use Rattle.bed_deriv.specs.Derives.{facts_to_prove, rules};
 ghost use Rattle.bed_deriv.specs.Walk.{walk, walk_all};
 ghost use Rattle.bed_check_pure.specs.Faults.{AnswersWalk};
 ghost use Rattle.bed_check_cond.specs.Points.{rest_of, rests_at};
-ghost use Rattle.bed_check_cond.specs.Answered.{answered};
 ghost use Rattle.bed_check_cond.specs.Stack.{rests_walk, size, children_size, rests_size, waiting, AnswersOpened, AnswersTurn};
 
 use crate::onward::onward;
@@ -23,6 +22,15 @@ pub(crate) struct Rests<'a> {
     pub(crate) states: List<SymState>,
     pub(crate) ahead: Ahead<'a>,
     pub(crate) children: &'a [Deriv],
+}
+
+/// What a turn at a node leaves: what is left of the node, and what is left below its next child, which comes
+/// first, with the number of its first node.
+#[derive(Drop)]
+pub(crate) struct Turned<'a> {
+    pub(crate) left: Rests<'a>,
+    pub(crate) below: Rests<'a>,
+    pub(crate) node: u32,
 }
 
 // The trees behind the first ones.
@@ -47,7 +55,7 @@ fn facts_walked<'a>(
     children: &'a [Deriv],
     node: u32,
 ) -> Result<(Rests<'a>, u32), Verdict>
-    ensures walk { AnswersOpened decls.now function.now result (walk_all (map (walk (answered decls.now function.now)) children.now) (facts_to_prove s.now left.entry.goals ++ map Closes (rests_at left.entry.ahead left.entry.states)) node) }
+    ensures walk { AnswersOpened decls.now function.now result (walk_all (map (walk (rules decls.now function.now)) children.now) (facts_to_prove s.now left.entry.goals ++ map Closes (rests_at left.entry.ahead left.entry.states)) node) }
     ensures children { IfOk result (λ p. p.0.children.now ≡ drop (length left.entry.goals) children.now) }
 {
     let Left {
@@ -69,7 +77,7 @@ fn facts_walked<'a>(
 }
 
 // Checks a node of this number for the rest from a point, and the facts that it leaves.
-#[tactic(auto, using(crate::proofs::RestsLemmas::node_left, crate::proofs::RestsLemmas::node_refused))]
+#[tactic(auto, using(crate::proofs::RestsLemmas::node_refused))]
 fn opened<'a>(
     alloc: Global,
     decls: &Decls,
@@ -78,7 +86,7 @@ fn opened<'a>(
     d: &'a Deriv,
     node: u32,
 ) -> Result<(Rests<'a>, u32), Verdict>
-    ensures walk { AnswersOpened decls.now function.now result (walk (answered decls.now function.now) d.now (Closes (rest_of at.now)) node) }
+    ensures walk { AnswersOpened decls.now function.now result (walk (rules decls.now function.now) d.now (Closes (rest_of at.now)) node) }
     ensures smaller { IfOk result (λ p. rests_size p.0 < size d.now) }
 {
     let n = d.children.len();
@@ -97,15 +105,14 @@ fn opened<'a>(
     }
 }
 
-// The next turn at a node: None where nothing is left of it; else its next child is opened, and what is left
-// of the node comes before what is left of the child.
+// The next turn at a node: None where nothing is left of it; else its next child is opened.
 fn turn<'a>(
     alloc: Global,
     decls: &Decls,
     function: &Name,
     rests: Rests<'a>,
     node: u32,
-) -> Result<Option<(Rests<'a>, (Rests<'a>, u32))>, Verdict>
+) -> Result<Option<Turned<'a>>, Verdict>
     ensures { AnswersTurn decls.now function.now result rests.entry node }
 {
     let Rests {
@@ -123,31 +130,41 @@ fn turn<'a>(
             let point = Point { state, ahead };
             match opened(alloc, decls, function, &point, child, node) {
                 Err(verdict) => Err(verdict),
-                Ok(below) => Ok(Some((
-                    Rests {
+                Ok((below, node)) => Ok(Some(Turned {
+                    left: Rests {
                         states,
                         ahead,
                         children: more,
                     },
                     below,
-                ))),
+                    node,
+                })),
             }
         }
     }
 }
 
 // What is left of a node waits, if its children aren't all checked.
-fn wait<'a>(open: &mut List<Rests<'a>>, rests: Rests<'a>) -> Result<(), AllocError>
-    ensures { OnOk result (open.new ≡ open.old ++ waiting rests.entry) }
+fn wait<'a>(nodes: &mut List<Rests<'a>>, rests: Rests<'a>) -> Result<(), AllocError>
+    ensures { OnOk result (nodes.new ≡ nodes.old ++ waiting rests.entry) }
 {
     match rests.children {
         [] => Ok(()),
-        _ => open.push(rests),
+        _ => nodes.push(rests),
     }
 }
 
+// What a turn leaves waits.
+fn wait_both<'a>(nodes: &mut List<Rests<'a>>, turned: Turned<'a>) -> Result<(), AllocError>
+    ensures { OnOk result (nodes.new ≡ (nodes.old ++ waiting turned.entry.left) ++ waiting turned.entry.below) }
+{
+    let Turned { left, below, .. } = turned;
+    wait(nodes, left)?;
+    wait(nodes, below)
+}
+
 // Checks all that is left below a node, and gives the number after its last one.
-#[tactic(auto, using(crate::proofs::TurnLemmas::spent, crate::proofs::TurnLemmas::refused, crate::proofs::TurnLemmas::goes_below))]
+#[tactic(auto, using(crate::proofs::TurnLemmas::spent, crate::proofs::TurnLemmas::refused))]
 fn walk_left<'a>(
     alloc: Global,
     decls: &Decls,
@@ -158,20 +175,17 @@ fn walk_left<'a>(
     ensures { AnswersWalk result (rests_walk decls.now function.now root.entry first) }
 {
     let mut node = first;
-    let mut open = List::new(alloc);
-    if let Err(_) = open.push(root) {
+    let mut nodes = List::new(alloc);
+    if let Err(_) = nodes.push(root) {
         return Err(Verdict::Memory);
     }
     'turns: loop {
-        let Some(rests) = open.pop() else {
+        let Some(rests) = nodes.pop() else {
             return Ok(node);
         };
-        if let Some((left, (below, last))) = turn(alloc, decls, function, rests, node)? {
-            node = last;
-            if let Err(_) = wait(&mut open, left) {
-                return Err(Verdict::Memory);
-            }
-            if let Err(_) = wait(&mut open, below) {
+        if let Some(turned) = turn(alloc, decls, function, rests, node)? {
+            node = turned.node;
+            if let Err(_) = wait_both(&mut nodes, turned) {
                 return Err(Verdict::Memory);
             }
         }
@@ -191,7 +205,7 @@ pub(crate) fn rest_walked<'a>(
     at: &Point<'a>,
     d: &'a Deriv,
 ) -> Result<u32, Verdict>
-    ensures { AnswersWalk result (walk (answered decls.now function.now) d.now (Closes (rest_of at.now)) 1) }
+    ensures { AnswersWalk result (walk (rules decls.now function.now) d.now (Closes (rest_of at.now)) 1) }
 {
     match opened(alloc, decls, function, at, d, 1) {
         Err(verdict) => Err(verdict),
