@@ -84,3 +84,7 @@ module _ (s : SymState) where
   none_before args (suc k) l e =
       none_before args k (omega (arith, l))
       (one_more args k l ∙ ap (pair_sum (fact_at s (drop (2 * k) args) 0) (number_at (drop (2 * k) args) 1)) e ∙ sum_none (fact_at s (drop (2 * k) args) 0) (number_at (drop (2 * k) args) 1))
+
+  pub last_pairs : (args : List DArg) (h : ℕ) → 2 * h ≤ length args → length args < 2 * h + 2
+      → sum_at s (drop (2 * h) args) ≡ Some (record { constant = 0; parts = [] })
+  last_pairs args h l m = few (drop (2 * h) args) (let d = length-drop (2 * h) args in omega (arith, d, l, m))

@@ -1,8 +1,9 @@
 -- The chain is its walk: what the rule's premises say of it, one after the other.
-use Rattle.std.proofs.Common.{◌≡◌, ℕ, ◌+◌, Bool, true, false, List, [], ◌∷◌, Option, Some, None, Result, Ok, Err, refl, ◌∙◌}
+use Rattle.std.proofs.Common.{◌≡◌, ℕ, ◌+◌, ◌-◌, Bool, true, false, List, [], ◌∷◌, Option, Some, None, Result, Ok, Err, refl, ◌∙◌}
 use Rattle.bed_lang.specs.declared.form.Form.{Form}
-use Rattle.bed_lang.specs.declared.word.Word.{Word}
+use Rattle.bed_lang.specs.declared.word.Word.{Word, Number}
 use Rattle.bed_lang.specs.declared.logic.Pure.{Pure}
+use Rattle.bed_lang.specs.Numbers.{wrap}
 use Rattle.bed_lang.specs.Forms.{word_form, same_form}
 use Rattle.bed_lang.specs.SameFacts.{is_constant}
 use Rattle.bed_deriv.specs.declared.derivation.DArg.{DArg}
@@ -16,7 +17,7 @@ use Rattle.bed_deriv.specs.Chains.{Leg, forth, back, exact_forth, exact_back, fr
 use Rattle.bed_deriv.specs.Checks.{Goals, Needs, Leaves, first_failure, when, Given}
 use Rattle.bed_check_pure.specs.declared.legs.Ends.{Ends}
 use Rattle.bed_check_pure.specs.declared.legs.Reached.{Reached}
-use Rattle.bed_check_pure.specs.Legs.{as_ends, ends_or, ends_by, fact_ends, edge_ends, after, moved, one_edge, all_edges, form_or, from_of, first_node, chain_end, chain_from, whole_chain, chain_of, reach}
+use Rattle.bed_check_pure.specs.Legs.{as_ends, ends_or, ends_by, fact_ends, number_ends, edge_ends, after, moved, one_edge, all_edges, form_or, from_of, first_node, chain_end, chain_from, whole_chain, chain_of, reach}
 
 -- an edge's ends as the rule has them
 as_leg : Ends → Leg
@@ -34,6 +35,12 @@ fact_is s i f go = by (numbered s.facts i)
     by None = refl
     by (Some p) = found (f p)
 
+constant_is : (node : Form) (n : ℕ) (go : Leg → Goals) (t : Bool)
+    → when t 3 (first_failure (go (record { from = node; to = word_form (Number n); up = node.constant - wrap n; down = wrap n - node.constant })))
+    ≡ after (when t 3 (Ok (number_ends node n))) (λ l. first_failure (go (as_leg l)))
+constant_is node n go true = refl
+constant_is node n go false = refl
+
 edge_is : (s : SymState) (node : Form) (e : Edge) (go : Leg → Goals)
     → first_failure (edge s node e go) ≡ after (edge_ends s node e) (λ l. first_failure (go (as_leg l)))
 edge_is s node (F i) go = fact_is s i forth go
@@ -44,13 +51,18 @@ edge_is s node (P i) go = fact_is s i from_one_more go
 edge_is s node (Q i) go = fact_is s i to_one_more go
 edge_is s node (R i) go = fact_is s i to_one_less go
 edge_is s node (S i) go = fact_is s i from_one_less go
-edge_is s node (K n) go = by (is_constant node)
-  where
-    by : (t : Bool) → when t 3 (first_failure (go _)) ≡ after (when t 3 (Ok _)) (λ l. first_failure (go (as_leg l)))
-    by true = refl
-    by false = refl
+edge_is s node (K n) go = constant_is node n go (is_constant node)
 edge_is s node (Z e) go = refl
 edge_is s node H go = refl
+
+-- an edge is gone along, and then the others
+one_move : (s : SymState) (es : List DArg) (up down : ℕ) (go : Form → ℕ → ℕ → Goals)
+    → ((n : Form) (u d : ℕ) → first_failure (legs s es n u d go) ≡ after (all_edges s es n u d) (λ x. first_failure (go x.node x.up x.down)))
+    → (l : Ends) (t : Bool)
+    → when t 3 (first_failure (legs s es l.to (up + l.up) (down + l.down) go))
+    ≡ after (after (when t 3 (Ok (reach l.to (up + l.up) (down + l.down)))) (λ x. all_edges s es x.node x.up x.down)) (λ x. first_failure (go x.node x.up x.down))
+one_move s es up down go ih l true = ih l.to (up + l.up) (down + l.down)
+one_move s es up down go ih l false = refl
 
 legs_are : (s : SymState) (es : List DArg) (node : Form) (up down : ℕ) (go : Form → ℕ → ℕ → Goals)
     → first_failure (legs s es node up down go) ≡ after (all_edges s es node up down) (λ x. first_failure (go x.node x.up x.down))
@@ -64,12 +76,7 @@ legs_are s (given.Edge e ∷ es) node up down go =
         → after r (λ l. first_failure (Needs 3 (same_form l.from node) (legs s es l.to (up + l.up) (down + l.down) go)))
         ≡ after (after (after r (moved node up down)) (λ x. all_edges s es x.node x.up x.down)) (λ x. first_failure (go x.node x.up x.down))
     by ih (Err p) = refl
-    by ih (Ok l) = on (same_form l.from node)
-      where
-        on : (t : Bool) → when t 3 (first_failure (legs s es l.to (up + l.up) (down + l.down) go))
-            ≡ after (after (when t 3 (Ok (reach l.to (up + l.up) (down + l.down)))) (λ x. all_edges s es x.node x.up x.down)) (λ x. first_failure (go x.node x.up x.down))
-        on true = ih l.to (up + l.up) (down + l.down)
-        on false = refl
+    by ih (Ok l) = one_move s es up down go ih l (same_form l.from node)
 legs_are s (given.Number n ∷ es) node up down go = refl
 legs_are s (given.Arg a ∷ es) node up down go = refl
 legs_are s (given.Pure p ∷ es) node up down go = refl

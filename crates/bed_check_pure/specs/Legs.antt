@@ -47,10 +47,11 @@ abbrev pub fact_ends : SymState → ℕ → (Pure → Option Leg) → Result End
 fact_ends s i f = ends_by f (numbered s.facts i)
 
 -- the edge to a number, from a constant
+abbrev pub number_ends : Form → ℕ → Ends
+number_ends node n = record { from = node; to = word_form (Number n); up = node.constant - wrap n; down = wrap n - node.constant }
+
 abbrev pub constant_ends : Form → ℕ → Result Ends ℕ
-constant_ends node n =
-    when (is_constant node) 3
-    (Ok (record { from = node; to = word_form (Number n); up = node.constant - wrap n; down = wrap n - node.constant }))
+constant_ends node n = when (is_constant node) 3 (Ok (number_ends node n))
 
 -- an edge at a node of the chain
 abbrev pub edge_ends : SymState → Form → Edge → Result Ends ℕ

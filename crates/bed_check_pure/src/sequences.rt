@@ -252,10 +252,8 @@ fn lacking(
     ensures { IfOk result (λ r. r ≡ lacking s.now e.now pieces.now) }
 {
     let mut out = List::new(alloc);
-    let mut rest = pieces;
-    while let [piece, more @ ..] = rest {
+    for piece in pieces {
         push_not_in_piece(alloc, &mut out, s, e, piece)?;
-        rest = more;
     }
     Ok(out)
 }
@@ -461,10 +459,8 @@ fn with_pieces(
     ensures { IfOk result (λ r. r ≡ with_piece s.now goal.now e.now pieces.now) }
 {
     let mut out = List::new(alloc);
-    let mut rest = pieces;
-    while let [piece, more @ ..] = rest {
+    for piece in pieces {
         push_in_piece(alloc, &mut out, s, goal, e, piece)?;
-        rest = more;
     }
     Ok(out)
 }

@@ -62,12 +62,10 @@ fn parts_but(alloc: Global, v: &Var, parts: &[(Key, u32)]) -> Result<List<(Key, 
     ensures { IfOk result (λ r. r ≡ parts_but v.now parts.now) }
 {
     let mut out = List::new(alloc);
-    let mut rest = parts;
-    while let [part, more @ ..] = rest {
+    for part in parts {
         if !is_key(&part.0, v) {
             push_part(alloc, &mut out, part)?;
         }
-        rest = more;
     }
     Ok(out)
 }
@@ -189,10 +187,8 @@ fn facts_anew(alloc: Global, reading: &Reading, facts: &[Pure]) -> Result<List<P
     ensures { IfOk result (λ r. r ≡ map (replaced_fact (instance_of reading.now)) facts.now) }
 {
     let mut out = List::new(alloc);
-    let mut rest = facts;
-    while let [p, more @ ..] = rest {
-        push_fact(alloc, &mut out, reading, p)?;
-        rest = more;
+    for fact in facts {
+        push_fact(alloc, &mut out, reading, fact)?;
     }
     Ok(out)
 }
@@ -201,10 +197,8 @@ fn atoms_anew(alloc: Global, reading: &Reading, atoms: &[Atom]) -> Result<List<A
     ensures { IfOk result (λ r. r ≡ map (replaced_atom (instance_of reading.now)) atoms.now) }
 {
     let mut out = List::new(alloc);
-    let mut rest = atoms;
-    while let [a, more @ ..] = rest {
-        push_atom(alloc, &mut out, reading, a)?;
-        rest = more;
+    for atom in atoms {
+        push_atom(alloc, &mut out, reading, atom)?;
     }
     Ok(out)
 }

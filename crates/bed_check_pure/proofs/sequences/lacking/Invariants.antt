@@ -1,9 +1,6 @@
-use Rattle.std.proofs.Common.{◌≡◌, ◌++◌, length}
+use Rattle.std.proofs.Common.{◌≡◌, ◌++◌, drop}
 use Rattle.bed_deriv.specs.ListRules.{lacking}
 use Rattle.bed_check_pure.proofs.sequences.lacking.Given as goal
 
-abbrev pub invariant-loop-rest : goal.invariant-loop-rest
-invariant-loop-rest l = l.out ++ lacking l.s l.e l.rest ≡ lacking l.s l.e l.fn.pieces
-
-abbrev pub decreases-loop-rest : goal.decreases-loop-rest
-decreases-loop-rest l = length l.rest
+abbrev pub invariant-loop-piece : goal.invariant-loop-piece
+invariant-loop-piece l = l.out ++ lacking l.s l.e (drop l.piece-index l.pieces) ≡ lacking l.s l.e l.pieces

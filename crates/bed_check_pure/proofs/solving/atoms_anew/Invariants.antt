@@ -1,10 +1,7 @@
-use Rattle.std.proofs.Common.{◌≡◌, length, ◌++◌, map}
+use Rattle.std.proofs.Common.{◌≡◌, ◌++◌, drop, map}
 use Rattle.bed_deriv.specs.Opening.{replaced_atom}
 use Rattle.bed_deriv.specs.Readings.{instance_of}
 use Rattle.bed_check_pure.proofs.solving.atoms_anew.Given as goal
 
-abbrev pub invariant-loop-rest : goal.invariant-loop-rest
-invariant-loop-rest l = l.out ++ map (replaced_atom (instance_of l.reading)) l.rest ≡ map (replaced_atom (instance_of l.reading)) l.fn.atoms
-
-abbrev pub decreases-loop-rest : goal.decreases-loop-rest
-decreases-loop-rest l = length l.rest
+abbrev pub invariant-loop-atom : goal.invariant-loop-atom
+invariant-loop-atom l = l.out ++ map (replaced_atom (instance_of l.reading)) (drop l.atom-index l.atoms) ≡ map (replaced_atom (instance_of l.reading)) l.atoms
