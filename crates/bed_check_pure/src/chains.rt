@@ -132,7 +132,7 @@ fn left_word(g: &Pure) -> Option<&Word>
         Pure::Same(_, _) => None,
         Pure::Member(a, _) => Some(a),
         Pure::NonMember(a, _) => Some(a),
-        Pure::Code(a, _) => Some(a),
+        Pure::Code(_, _) => None,
     }
 }
 

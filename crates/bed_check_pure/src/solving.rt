@@ -1,7 +1,7 @@
 //! The rule that solves an equation for a variable.
 ghost use Rattle.std.specs.Option.{option_copied, option_map};
-ghost use Rattle.std.specs.Prelude.{◌≡◌, ◌∷◌, ◌++◌, [], IfOk, OnOk, map};
-ghost use Rattle.bed_lang.specs.Keys.{same_key};
+ghost use Rattle.std.specs.Prelude.{◌≡◌, ◌∷◌, ◌++◌, [], IfOk, OnOk, bytes_eq, map};
+ghost use Rattle.bed_lang.specs.Keys.{same_key, key_text};
 ghost use Rattle.bed_lang.specs.Forms.{seq_form, times_form};
 ghost use Rattle.bed_forms.specs.Rebuilt.{form_word};
 ghost use Rattle.bed_lang.specs.Coefficients.{coefficient_in};
@@ -31,14 +31,21 @@ fn is_key(key: &Key, v: &Var) -> bool
     }
 }
 
-// The coefficient of a variable.
+// Whether the texts of a key and a variable are the same.
 #[tactic(auto, using(crate::proofs::CoefficientLaws::same_key_is))]
+fn has_text(key: &Key, v: &Var) -> bool
+    ensures { result ≡ bytes_eq (key_text (Key.Var v.now)) (key_text key.now) }
+{
+    is_key(key, v)
+}
+
+// The coefficient of a variable.
 fn coefficient(v: &Var, parts: &[(Key, u32)]) -> u32
     ensures { result ≡ coefficient_in (Key.Var v.now) parts.now }
 {
     let mut rest = parts;
     while let [part, more @ ..] = rest {
-        if is_key(&part.0, v) {
+        if has_text(&part.0, v) {
             return part.1;
         }
         rest = more;
