@@ -8,8 +8,10 @@ use Rattle.bed_deriv.specs.declared.derivation.Rule.TheVariants.{Claim, When, Ne
 use Rattle.bed_deriv.specs.declared.state.SymState.{SymState}
 use Rattle.bed_deriv.specs.declared.state.Remainder.{Remainder}
 use Rattle.bed_deriv.specs.Fresh.{IsKnownState, AreUnfresh}
+use Rattle.bed_deriv.specs.Checks.{outcome}
+use Rattle.bed_deriv.specs.Derives.{pure_rule}
 use Rattle.bed_deriv.specs.Nodes.{children_walked}
-use Rattle.bed_check_pure.specs.Answers.{built_fact_rule, built_table}
+use Rattle.bed_check_pure.specs.Answers.{built_table}
 use Rattle.bed_check_pure.proofs.RefusalLaws.{never_accepted}
 use Rattle.bed_check_heap.specs.Steps.{built_rule}
 use Rattle.bed_check_heap.proofs.StepLaws.{rule_parts, walked_parts}
@@ -27,7 +29,7 @@ built_grown d unfresh s known args n m Never e = rule_grown d unfresh s known Ne
 built_grown d unfresh s known args n m Divide e = rule_grown d unfresh s known Divide args n m e
 built_grown d unfresh s known args n m Merge e = rule_grown d unfresh s known Merge args n m e
 built_grown d unfresh s known args n m Shape e = rule_grown d unfresh s known Shape args n m e
-built_grown d unfresh s known args n m r e = absurd (never_accepted (built_fact_rule d r s None args n) m e)
+built_grown d unfresh s known args n m r e = absurd (never_accepted (outcome (pure_rule d r s None args n)) m e)
 
 pub steps_grow : StepsGrow
 steps_grow d s t ss e unfresh known =

@@ -10,13 +10,12 @@ use Rattle.bed_deriv.specs.declared.derivation.DArg.{DArg}
 use Rattle.bed_deriv.specs.declared.derivation.Deriv.{Deriv}
 use Rattle.bed_deriv.specs.declared.state.SymState.{SymState}
 use Rattle.bed_deriv.specs.declared.state.Remainder.{Remainder}
-use Rattle.bed_deriv.specs.Checks.{with_room, left_states}
-use Rattle.bed_deriv.specs.Derives.{refused}
+use Rattle.bed_deriv.specs.Checks.{with_room, left_states, outcome}
+use Rattle.bed_deriv.specs.Derives.{pure_rule, refused}
 use Rattle.bed_check_pure.specs.declared.fault.Fault.{Fault}
 use Rattle.bed_check_pure.specs.declared.fault.Fault.TheVariants as fault
 use Rattle.bed_check_pure.specs.declared.verdict.Verdict.{Verdict}
 use Rattle.bed_check_pure.specs.declared.verdict.Verdict.TheVariants.{Reject, Memory}
-use Rattle.bed_check_pure.specs.Answers.{built_fact_rule}
 use Rattle.bed_check_pure.specs.Faults.{AnswersRule}
 use Rattle.bed_check_heap.specs.Steps.{built_rule, stepped, Answers}
 use Rattle.bed_check_heap.specs.Instances.{matched}
@@ -44,7 +43,7 @@ raw_built d rule.Never s args n = refl
 raw_built d rule.Divide s args n = refl
 raw_built d rule.Merge s args n = refl
 raw_built d rule.Shape s args n = refl
-raw_built d r s args n = whatever_room (built_fact_rule d r s None args n)
+raw_built d r s args n = whatever_room (outcome (pure_rule d r s None args n))
 
 pub accepted_leads : (d : Decls) (s : SymState) (t : Deriv) (r : Result (List SymState) Verdict) → Answers r (stepped d s t) → IfOk r (Leads d s)
 accepted_leads d s t (Ok ss) e = stepped-leads d s t ss e

@@ -9,7 +9,8 @@ use Rattle.bed_deriv.specs.declared.derivation.Rule.TheVariants.{Claim, When, Ne
 use Rattle.bed_deriv.specs.declared.state.SymState.{SymState}
 use Rattle.bed_deriv.specs.declared.state.Remainder.{Remainder}
 use Rattle.bed_deriv.specs.HeapRules.{claim, case_split, never, divide, merge, shape}
-use Rattle.bed_check_pure.specs.Answers.{built_fact_rule}
+use Rattle.bed_deriv.specs.Checks.{outcome}
+use Rattle.bed_deriv.specs.Derives.{pure_rule}
 use Rattle.bed_check_pure.proofs.RefusalLaws.{never_accepted}
 use Rattle.bed_check_heap.specs.Steps.{built_rule}
 use Rattle.bed_check_heap.specs.Laws.{ClaimKeeps, WhenKeeps, NeverKeeps, DivideKeeps, MergeKeeps, ShapeKeeps}
@@ -25,7 +26,7 @@ built_keeps w ν h s args n m Never e = kept w ν h s n (never args n) (never_ke
 built_keeps w ν h s args n m Divide e = kept w ν h s n (divide s args n) (divide_keeps w ν h s args n) m e
 built_keeps w ν h s args n m Merge e = kept w ν h s n (merge s args n) (merge_keeps w ν h s args n) m e
 built_keeps w ν h s args n m Shape e = kept w ν h s n (shape s args n) (shape_keeps w ν h s args n) m e
-built_keeps w ν h s args n m r e = absurd (never_accepted (built_fact_rule w.decls r s None args n) m e)
+built_keeps w ν h s args n m r e = absurd (never_accepted (outcome (pure_rule w.decls r s None args n)) m e)
 
 -- ---- the laws, as the table of rules has them
 

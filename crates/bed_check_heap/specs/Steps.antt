@@ -7,16 +7,16 @@ use Rattle.bed_deriv.specs.declared.derivation.DArg.{DArg}
 use Rattle.bed_deriv.specs.declared.derivation.Deriv.{Deriv}
 use Rattle.bed_deriv.specs.declared.state.SymState.{SymState}
 use Rattle.bed_deriv.specs.declared.state.Remainder.{Remainder}
-use Rattle.bed_deriv.specs.Checks.{remainder}
+use Rattle.bed_deriv.specs.Checks.{remainder, outcome}
 use Rattle.bed_deriv.specs.Nodes.{StateTable, stepped_by}
-use Rattle.bed_deriv.specs.Derives.{heap_rule, refused}
+use Rattle.bed_deriv.specs.Derives.{pure_rule, heap_rule, refused}
 use Rattle.bed_check_pure.specs.declared.verdict.Verdict.{Verdict}
 use Rattle.bed_check_pure.specs.declared.verdict.Verdict.TheVariants.{Reject, Memory}
-use Rattle.bed_check_pure.specs.Answers.{built_fact_rule, built_table}
+use Rattle.bed_check_pure.specs.Answers.{built_table}
 
 -- a rule for facts proves no rest of a condition: a node of one is refused by the first of its premises that fails, or else by the third
 abbrev pub refused_rest : Decls → Rule → SymState → List DArg → ℕ → Result Remainder ℕ
-refused_rest d r s args n = refused (built_fact_rule d r s None args n)
+refused_rest d r s args n = refused (outcome (pure_rule d r s None args n))
 
 -- The rules that are built: those that change a state, each by the table of rules, and those for facts. A node of another rule fails its
 -- third premise.

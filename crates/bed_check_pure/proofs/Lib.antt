@@ -12,6 +12,9 @@ pub mod ChainLaws
 pub mod CombLaws
 pub mod ReplacedLaws
 pub mod SolveLaws
+pub mod CoefficientLaws
+pub mod LegLaws
+pub mod CombinationLaws
 pub mod RefusalLaws
 pub mod TableLaws
 pub mod WalkLaws

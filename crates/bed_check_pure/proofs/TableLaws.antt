@@ -56,14 +56,13 @@ module _ (w : World) (ν : Values) (h : Memory) (q : Sequent) (args : List DArg)
   fact_sound fits _ e = absurd (cc)
 
   built_is_fact : (r : Rule) → built_table w.decls r q args n ≡ Ok goals → fact_table w.decls r q args n ≡ Ok goals
-  built_is_fact Hyp e = e
   built_is_fact Claim e = absurd (never_accepted (remainder (claim q.state args n)) goals e)
   built_is_fact When e = absurd (never_accepted (remainder (case_split q.state args n)) goals e)
   built_is_fact Never e = absurd (never_accepted (remainder (never args n)) goals e)
   built_is_fact Divide e = absurd (never_accepted (remainder (divide q.state args n)) goals e)
   built_is_fact Merge e = absurd (never_accepted (remainder (merge q.state args n)) goals e)
   built_is_fact Shape e = absurd (never_accepted (remainder (shape q.state args n)) goals e)
-  built_is_fact _ e = cc
+  built_is_fact _ e = e
 
   -- and so do those of a rule that is built
   pub built_sound : LabelsFit w → (r : Rule) → built_table w.decls r q args n ≡ Ok goals → Suffice

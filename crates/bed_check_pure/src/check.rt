@@ -1,15 +1,17 @@
 //! The check of a derivation, node by node.
 ghost use Rattle.std.specs.Prelude.{OnOk};
 ghost use Rattle.std.specs.Option.{option_copied};
+ghost use Rattle.bed_deriv.specs.Checks.{first_failure, outcome};
+ghost use Rattle.bed_deriv.specs.Derives.{pure_rule};
 ghost use Rattle.bed_deriv.specs.Walk.{walk, walk_all};
-ghost use Rattle.bed_check_pure.specs.Faults.{AnswersRule, AnswersWalk, raw_fact_rule};
-ghost use Rattle.bed_check_pure.specs.Answers.{built_fact_rule, built_table, walked, Answers};
+ghost use Rattle.bed_check_pure.specs.Faults.{AnswersRule, AnswersWalk};
+ghost use Rattle.bed_check_pure.specs.Answers.{built_table, walked, Answers};
 ghost use Rattle.bed_check_pure.specs.Sound.{Follows};
 
 use crate::fault::Fault;
 use crate::goals::goals_have_room;
 use crate::verdict::Verdict;
-use crate::{refusals, rules};
+use crate::{chains, labels, refusals, rules, sequences, solving, sums};
 use bed_deriv::{DArg, Deriv, Rule, Sequent, SymState};
 use bed_lang::{Decls, List, Pure};
 use std::alloc::Global;
@@ -17,24 +19,35 @@ use std::alloc::Global;
 // What a rule for facts leaves to prove, whether or not its states have room.
 fn raw_fact_rule(
     alloc: Global,
+    decls: &Decls,
     rule: Rule,
     s: &SymState,
     goal: Option<&Pure>,
     args: &[DArg],
     n: usize,
 ) -> Result<List<Sequent>, Fault>
-    ensures { AnswersRule result (raw_fact_rule rule s.now (option_copied goal.entry) args.now n) }
+    ensures { AnswersRule result (first_failure (pure_rule decls.now rule s.now (option_copied goal.entry) args.now n)) }
 {
     match rule {
         Rule::Hyp => rules::hyp(alloc, s, goal, args, n),
         Rule::Norm => rules::norm(alloc, goal, args, n),
+        Rule::Comb => sums::comb(alloc, s, goal, args, n),
+        Rule::Solve => solving::solve(alloc, s, goal, args, n),
+        Rule::Uncons => sequences::uncons(alloc, s, goal, args, n),
+        Rule::Chain => chains::chain(alloc, s, goal, args, n),
         Rule::Order => rules::order(alloc, s, goal, args, n),
         Rule::Cut => rules::cut(alloc, s, goal, args, n),
         Rule::Carry => rules::carry(alloc, s, goal, args, n),
         Rule::Split => rules::split(alloc, s, goal, args, n),
         Rule::Absurd => rules::contradiction(alloc, s, goal, args, n),
+        Rule::Void => sequences::void(alloc, s, goal, args, n),
+        Rule::Member => sequences::member(alloc, s, goal, args, n),
+        Rule::Lacks => sequences::lacks(alloc, s, goal, args, n),
+        Rule::Part => sequences::part(alloc, s, goal, args, n),
+        Rule::One => sequences::one(alloc, s, goal, args, n),
         Rule::Distinct => rules::distinct(alloc, s, goal, args, n),
         Rule::Bound => rules::bound(alloc, s, goal, args, n),
+        Rule::Label => labels::label(alloc, decls, goal, args, n),
         _ => Err(Fault::Condition),
     }
 }
@@ -44,7 +57,6 @@ fn raw_fact_rule(
 ///
 /// # Errors
 /// The first premise that fails; `Memory` for want of memory.
-#[tactic(auto, using(crate::proofs::BuiltLaws::raw_built))]
 pub fn fact_rule(
     alloc: Global,
     decls: &Decls,
@@ -54,9 +66,9 @@ pub fn fact_rule(
     args: &[DArg],
     n: usize,
 ) -> Result<List<Sequent>, Fault>
-    ensures { AnswersRule result (built_fact_rule decls.now rule s.now (option_copied goal.entry) args.now n) }
+    ensures { AnswersRule result (outcome (pure_rule decls.now rule s.now (option_copied goal.entry) args.now n)) }
 {
-    match raw_fact_rule(alloc, rule, s, goal, args, n) {
+    match raw_fact_rule(alloc, decls, rule, s, goal, args, n) {
         Err(fault) => Err(fault),
         Ok(goals) => {
             if goals_have_room(goals.as_slice()) {
@@ -129,10 +141,9 @@ pub fn check_sequent(
     Ok(at)
 }
 
-/// Checks a derivation of a fact in a state, against these declarations. The rules hyp, norm, order, cut,
-/// carry, split, absurd, distinct and bound are built. The rules claim, when, never, divide, merge and
-/// shape prove no fact: a node of one is refused by its first failing premise, or else by the third. A
-/// node of another rule fails its third premise.
+/// Checks a derivation of a fact in a state, against these declarations, by the nineteen rules for facts.
+/// The rules claim, when, never, divide, merge and shape prove no fact: a node of one is refused by its
+/// first failing premise, or else by the third. A node of another rule fails its third premise.
 ///
 /// # Errors
 /// `Reject` exactly where some node is no instance of its rule: the first in preorder from 1, with its

@@ -1,12 +1,19 @@
 //! The checker of facts: derivations of a goal in a state.
 #![tactic(auto)]
 
+mod chains;
 mod check;
 mod fault;
 mod goals;
+mod labels;
 pub mod laws;
+mod legs;
 mod refusals;
 mod rules;
+mod sequences;
+mod solving;
+mod sums;
+mod variables;
 mod verdict;
 
 pub use check::{check_pure, check_sequent, fact_rule};
