@@ -4,7 +4,7 @@ use Rattle.std.proofs.lemmas.Bool.{ltb-true}
 use Rattle.bed_lang.specs.declared.logic.Pure.{Pure}
 use Rattle.bed_deriv.specs.declared.state.SymState.{SymState}
 use Rattle.bed_deriv.specs.declared.state.Remainder.{Remainder}
-use Rattle.bed_deriv.specs.Checks.{when, with_room, left_states}
+use Rattle.bed_deriv.specs.Checks.{when, have_room, with_room, left_states}
 
 pub full_fails : (goals : List Pure) (s : SymState) → 4294967296 ≤ s.next
     → with_room left_states (Ok (record { goals = goals; states = s ∷ [] })) ≡ Err 3
@@ -15,3 +15,11 @@ full_fails goals s h =
         → when ((b && nat_lt (length s.facts) 4294967296 && nat_lt (length s.atoms) 4294967296) && true) 3 x ≡ Err 3
     by x true d = absurd (omega (arith, d refl, h))
     by x false d = refl
+
+-- states of which one has no room
+pub none_opened : (states : List SymState) → have_room states ≡ false → with_room left_states (Ok (record { goals = []; states = states })) ≡ Err 3
+none_opened states e = by (have_room states) e
+  where
+    by : (b : Bool) → b ≡ false → when {A = Remainder} b 3 (Ok (record { goals = []; states = states })) ≡ Err 3
+    by true e = absurd (cc)
+    by false e = refl

@@ -5,7 +5,7 @@ ghost use Rattle.bed_deriv.specs.Checks.{first_failure, outcome};
 ghost use Rattle.bed_deriv.specs.Derives.{pure_rule};
 ghost use Rattle.bed_deriv.specs.Walk.{walk, walk_all};
 ghost use Rattle.bed_check_pure.specs.Faults.{AnswersRule, AnswersWalk};
-ghost use Rattle.bed_check_pure.specs.Answers.{built_table, walked, Answers};
+ghost use Rattle.bed_check_pure.specs.Answers.{goal_table, walked, Answers};
 ghost use Rattle.bed_check_pure.specs.Sound.{Follows};
 
 use crate::fault::Fault;
@@ -80,9 +80,14 @@ pub fn fact_rule(
     }
 }
 
-// What a rule leaves to prove.
-#[tactic(auto, using(crate::proofs::RefusalLaws::claim_is, crate::proofs::RefusalLaws::when_is, crate::proofs::RefusalLaws::never_is, crate::proofs::RefusalLaws::divide_is, crate::proofs::RefusalLaws::merge_is, crate::proofs::RefusalLaws::shape_is))]
-fn instance(
+/// What a node of any rule leaves to prove of a goal in a state, with these arguments and so many children.
+/// Rules that aren't for facts prove none.
+///
+/// # Errors
+/// The first premise that fails; where none does and the rule isn't for facts, the third. `Memory` for want
+/// of memory.
+#[tactic(auto, using(crate::proofs::RefusalLaws::claim_is, crate::proofs::RefusalLaws::when_is, crate::proofs::RefusalLaws::never_is, crate::proofs::RefusalLaws::unfold_is, crate::proofs::RefusalLaws::fold_is, crate::proofs::RefusalLaws::append_is, crate::proofs::RefusalLaws::divide_is, crate::proofs::RefusalLaws::merge_is, crate::proofs::RefusalLaws::shape_is))]
+pub fn goal_rule(
     alloc: Global,
     decls: &Decls,
     rule: Rule,
@@ -90,15 +95,20 @@ fn instance(
     args: &[DArg],
     n: usize,
 ) -> Result<List<Sequent>, Fault>
-    ensures { AnswersRule result (built_table decls.now rule q.now args.now n) }
+    ensures { AnswersRule result (goal_table decls.now rule q.now args.now n) }
 {
     match rule {
         Rule::Claim => Err(refusals::claim(&q.state, args, n)),
         Rule::When => Err(refusals::claim(&q.state, args, n)),
         Rule::Never => Err(refusals::never(args, n)),
+        Rule::Unfold => Err(refusals::unfold(decls, &q.state, args, n)),
+        Rule::Fold => Err(refusals::fold(decls, &q.state, args, n)),
+        Rule::Append => Err(refusals::pair(&q.state, args, n)),
         Rule::Divide => Err(refusals::divide(alloc, &q.state, args, n)),
-        Rule::Merge => Err(refusals::merge(&q.state, args, n)),
+        Rule::Merge => Err(refusals::pair(&q.state, args, n)),
         Rule::Shape => Err(refusals::shape(&q.state, args, n)),
+        Rule::Step => Err(Fault::Condition),
+        Rule::Finish => Err(Fault::Condition),
         _ => fact_rule(alloc, decls, rule, &q.state, Some(&q.goal), args, n),
     }
 }
@@ -115,9 +125,9 @@ pub fn check_sequent(
     d: &Deriv,
     node: u32,
 ) -> Result<u32, Verdict>
-    ensures { AnswersWalk result (walk (built_table decls.now) d.now q.now node) }
+    ensures { AnswersWalk result (walk (goal_table decls.now) d.now q.now node) }
 {
-    let goals = match instance(alloc, decls, d.rule, q, d.args.as_slice(), d.children.len()) {
+    let goals = match goal_rule(alloc, decls, d.rule, q, d.args.as_slice(), d.children.len()) {
         Ok(goals) => goals,
         Err(Fault::Count) => return Err(Verdict::Reject { node, premise: 1 }),
         Err(Fault::Argument) => return Err(Verdict::Reject { node, premise: 2 }),
@@ -142,8 +152,8 @@ pub fn check_sequent(
 }
 
 /// Checks a derivation of a fact in a state, against these declarations, by the nineteen rules for facts.
-/// The rules claim, when, never, divide, merge and shape prove no fact: a node of one is refused by its
-/// first failing premise, or else by the third. A node of another rule fails its third premise.
+/// Rules that change a state prove no fact: a node of one is refused by its first failing premise, or else
+/// by the third. A node of step or finish fails its third premise.
 ///
 /// # Errors
 /// `Reject` exactly where some node is no instance of its rule: the first in preorder from 1, with its

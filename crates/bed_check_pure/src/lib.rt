@@ -8,6 +8,7 @@ mod goals;
 mod labels;
 pub mod laws;
 mod legs;
+pub mod predicates;
 mod refusals;
 mod rules;
 mod sequences;
@@ -16,6 +17,6 @@ mod sums;
 mod variables;
 mod verdict;
 
-pub use check::{check_pure, check_sequent, fact_rule};
+pub use check::{check_pure, check_sequent, fact_rule, goal_rule};
 pub use fault::Fault;
 pub use verdict::Verdict;
