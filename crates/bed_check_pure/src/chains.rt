@@ -82,12 +82,7 @@ fn moved(node: &Form, ends: Ends, up: u64, down: u64) -> Result<Reached, Fault>
 }
 
 // The node behind an argument of the chain.
-fn one_edge(
-    alloc: Global,
-    s: &SymState,
-    arg: &DArg,
-    at: Reached,
-) -> Result<Reached, Fault>
+fn one_edge(alloc: Global, s: &SymState, arg: &DArg, at: Reached) -> Result<Reached, Fault>
     ensures { AnswersRule result (one_edge s.now arg.now at.node at.up at.down) }
 {
     match arg {
@@ -100,12 +95,7 @@ fn one_edge(
 }
 
 // The last node of a chain, with both sums.
-fn all_edges(
-    alloc: Global,
-    s: &SymState,
-    args: &[DArg],
-    first: Form,
-) -> Result<Reached, Fault>
+fn all_edges(alloc: Global, s: &SymState, args: &[DArg], first: Form) -> Result<Reached, Fault>
     ensures { AnswersRule result (all_edges s.now args.now first 0 0) }
 {
     let mut at = Reached {
@@ -258,12 +248,7 @@ fn kept_first(alloc: Global, first: &Form) -> Result<Form, Fault>
     }
 }
 
-fn walked(
-    alloc: Global,
-    s: &SymState,
-    args: &[DArg],
-    first: &Form,
-) -> Result<Reached, Fault>
+fn walked(alloc: Global, s: &SymState, args: &[DArg], first: &Form) -> Result<Reached, Fault>
     ensures { AnswersRule result (all_edges s.now args.now first.now 0 0) }
 {
     match kept_first(alloc, first) {

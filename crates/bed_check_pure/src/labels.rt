@@ -37,7 +37,13 @@ fn lone_label(parts: &[(Key, u32)]) -> Option<&Name>
     match parts {
         [] => None,
         [part, more @ ..] => match more {
-            [] => { if part.1 == 1 { key_label(&part.0) } else { None } }
+            [] => {
+                if part.1 == 1 {
+                    key_label(&part.0)
+                } else {
+                    None
+                }
+            }
             _ => None,
         },
     }

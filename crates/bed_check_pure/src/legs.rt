@@ -226,13 +226,7 @@ fn fact_ends(alloc: Global, s: &SymState, i: u32, e: &Edge) -> Result<Ends, Faul
     }
 }
 
-fn to_number(
-    alloc: Global,
-    node: &Form,
-    n: u32,
-    up: u32,
-    down: u32,
-) -> Result<Ends, AllocError>
+fn to_number(alloc: Global, node: &Form, n: u32, up: u32, down: u32) -> Result<Ends, AllocError>
     ensures { IfOk result (λ r. r ≡ record { from = node.now; to = word_form (Word.Number n); up = up; down = down }) }
 {
     let to = word_form(alloc, &Word::Number(n))?;
@@ -274,12 +268,7 @@ fn to_greatest(alloc: Global, node: &Form) -> Result<Ends, Fault>
 }
 
 /// An edge at a node of the chain.
-pub(crate) fn edge_ends(
-    alloc: Global,
-    s: &SymState,
-    node: &Form,
-    e: &Edge,
-) -> Result<Ends, Fault>
+pub(crate) fn edge_ends(alloc: Global, s: &SymState, node: &Form, e: &Edge) -> Result<Ends, Fault>
     ensures { AnswersRule result (edge_ends s.now node.now e.now) }
 {
     match e {

@@ -166,7 +166,11 @@ fn fold_values(s: &SymState, args: &[DArg], predicate: &Predicate, case: &Assert
     let params = predicate.params.len();
     let binders = case.binders.len();
     are_values(s.next, predicate.params.as_slice(), &args[2..][..params])
-        && are_values(s.next, case.binders.as_slice(), &args[2 + params..][..binders])
+        && are_values(
+            s.next,
+            case.binders.as_slice(),
+            &args[2 + params..][..binders],
+        )
         && are_numbers(s, &args[2 + params + binders..])
 }
 

@@ -96,8 +96,10 @@ fn is_void(alloc: Global, s: &Seq, t: &Seq) -> Result<bool, AllocError>
 {
     let ps = seq_form(alloc, s)?;
     let qs = seq_form(alloc, t)?;
-    Ok((ps.is_empty() && has_element(qs.as_slice()))
-        || (qs.is_empty() && has_element(ps.as_slice())))
+    Ok(
+        (ps.is_empty() && has_element(qs.as_slice()))
+            || (qs.is_empty() && has_element(ps.as_slice())),
+    )
 }
 
 fn void_sides(alloc: Global, s: &Seq, t: &Seq) -> Result<List<Sequent>, Fault>
@@ -175,13 +177,7 @@ fn member_piece(
     }
 }
 
-fn member_of(
-    alloc: Global,
-    s: &SymState,
-    e: &Word,
-    t: &Seq,
-    j: u32,
-) -> Result<List<Sequent>, Fault>
+fn member_of(alloc: Global, s: &SymState, e: &Word, t: &Seq, j: u32) -> Result<List<Sequent>, Fault>
     ensures { AnswersRule result (first_failure (member_piece s.now e.now (seq_form t.now) j)) }
 {
     match seq_form(alloc, t) {
@@ -321,12 +317,7 @@ fn says_this(alloc: Global, goal: &Pure, p: Pure) -> Result<bool, AllocError>
     same_facts(alloc, goal, &p)
 }
 
-fn says_not_in(
-    alloc: Global,
-    goal: &Pure,
-    e: &Word,
-    piece: &Piece,
-) -> Result<bool, AllocError>
+fn says_not_in(alloc: Global, goal: &Pure, e: &Word, piece: &Piece) -> Result<bool, AllocError>
     ensures { IfOk result (λ r. r ≡ same_facts goal.now (not_in_piece e.now piece.now)) }
 {
     match not_in_piece(alloc, e, piece) {
@@ -383,12 +374,7 @@ fn part_of(
     }
 }
 
-fn part_fact(
-    alloc: Global,
-    goal: Option<&Pure>,
-    p: &Pure,
-    j: u32,
-) -> Result<List<Sequent>, Fault>
+fn part_fact(alloc: Global, goal: Option<&Pure>, p: &Pure, j: u32) -> Result<List<Sequent>, Fault>
     ensures { AnswersRule result (first_failure (part_fact (option_copied goal.entry) p.now j)) }
 {
     match p {
@@ -647,12 +633,7 @@ fn uncons_sides(
     }
 }
 
-fn uncons_fact(
-    alloc: Global,
-    s: &SymState,
-    goal: &Pure,
-    p: &Pure,
-) -> Result<List<Sequent>, Fault>
+fn uncons_fact(alloc: Global, s: &SymState, goal: &Pure, p: &Pure) -> Result<List<Sequent>, Fault>
     ensures { AnswersRule result (first_failure (uncons_fact s.now goal.now p.now)) }
 {
     match p {

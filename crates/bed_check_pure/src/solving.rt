@@ -53,11 +53,7 @@ fn coefficient(v: &Var, parts: &[(Key, u32)]) -> u32
     0
 }
 
-fn push_part(
-    alloc: Global,
-    out: &mut List<(Key, u32)>,
-    part: &(Key, u32),
-) -> Result<(), AllocError>
+fn push_part(alloc: Global, out: &mut List<(Key, u32)>, part: &(Key, u32)) -> Result<(), AllocError>
     ensures { OnOk result (out.new ≡ out.old ++ part.now ∷ []) }
 {
     let key = part.0.copy(alloc)?;

@@ -129,7 +129,12 @@ fn says_sum(alloc: Global, goal: &Pure, form: &Form) -> Result<List<Sequent>, Fa
     }
 }
 
-fn comb_goal(alloc: Global, s: &SymState, goal: &Pure, args: &[DArg]) -> Result<List<Sequent>, Fault>
+fn comb_goal(
+    alloc: Global,
+    s: &SymState,
+    goal: &Pure,
+    args: &[DArg],
+) -> Result<List<Sequent>, Fault>
     ensures { AnswersRule result (first_failure (comb_goal s.now args.now goal.now)) }
 {
     match sum_at(alloc, s, args) {

@@ -1,12 +1,12 @@
 //! What tests are made of, written as texts.
 //!
 //! A text is read from the left, and each letter makes something of what was made before it. Words: `a` to
-//! `z` are variables, `0` to `9` numbers, `+` and `-` a sum and a difference, `%` the fresh variable 9, `$`
-//! the label f. Sequences: `A` to `Z` are the variables a to z, `[` is nil, `;` a word before a sequence, `.`
+//! `z` are variables, `0` to `9` numbers, `&` the number of two numbers as digits, `+` and `-` a sum and a
+//! difference, `%` the fresh variable 9, `$` the label f. Sequences: `A` to `Z` are the variables a to z, `[` is nil, `;` a word before a sequence, `.`
 //! two sequences. Facts of two words: `=`, `#` (differ), `<`, `{` (at most); of two sequences `~`; of a word
 //! and a sequence `?` (in) and `!` (not in); of a word `@` (code of the signature C). Atoms: `>` a cell, `_` a
-//! byte, `]` a block, `*` a segment lseg of two words and a sequence. Arguments: `,` makes one of a word (a
-//! number of a number), `^` of a sequence, `|` of a fact, `'` the name of a variable, and `:` with F, G, X, Y,
+//! byte, `]` a block, `*` a segment lseg of two words and a sequence, `)` the predicate d of a word. Arguments:
+//! `,` makes one of a word (a number of a number), `^` of a sequence, `|` of a fact, `"` the name lseg, and `:` with F, G, X, Y,
 //! P, Q, R, S or K an edge of a number, with Z one of a word, and with H the last kind. A node is `/`, the
 //! letter of its rule, and the number of its children: it takes all arguments and as many trees.
 use bed_deriv::{DArg, Deriv, Edge, Rule};
@@ -32,7 +32,7 @@ pub(crate) fn name(alloc: Global, byte: u8) -> Result<Name, AllocError> {
     })
 }
 
-fn variable(alloc: Global, byte: u8) -> Result<Word, AllocError> {
+pub(crate) fn variable(alloc: Global, byte: u8) -> Result<Word, AllocError> {
     Ok(Word::Var(Var::Named(name(alloc, byte)?)))
 }
 
@@ -76,6 +76,12 @@ fn difference(alloc: Global, words: &mut List<Word>) -> Result<Word, Fail> {
     Ok(Word::Sub(a, b))
 }
 
+fn two_digits(words: &mut List<Word>) -> Result<Word, Fail> {
+    let b = number(words)?;
+    let a = number(words)?;
+    Ok(Word::Number(a.wrapping_mul(10).wrapping_add(b)))
+}
+
 fn label(alloc: Global) -> Result<Word, AllocError> {
     Ok(Word::Label(name(alloc, b'f')?))
 }
@@ -83,6 +89,7 @@ fn label(alloc: Global) -> Result<Word, AllocError> {
 fn made_word(alloc: Global, words: &mut List<Word>, letter: u8) -> Result<Word, Fail> {
     match letter {
         b'0'..=b'9' => Ok(Word::Number(u32::from(letter.wrapping_sub(b'0')))),
+        b'&' => two_digits(words),
         b'+' => sum(alloc, words),
         b'-' => difference(alloc, words),
         b'%' => Ok(Word::Var(Var::Fresh(9))),
@@ -193,15 +200,28 @@ fn segment_args(alloc: Global, made: &mut Made) -> Result<List<Arg>, Fail> {
     Ok(args)
 }
 
+fn doubled(alloc: Global, words: &mut List<Word>) -> Result<Atom, Fail> {
+    let mut args = List::new(alloc);
+    args.push(Arg::Word(0, word(words)?))?;
+    Ok(Atom::Pred(name(alloc, b'd')?, args))
+}
+
+fn lseg(alloc: Global) -> Result<Name, AllocError> {
+    Ok(Name {
+        bytes: List::from_slice(alloc, b"lseg")?,
+        at: 0,
+    })
+}
+
 fn segment(alloc: Global, made: &mut Made) -> Result<Atom, Fail> {
     let args = segment_args(alloc, made)?;
-    let bytes = List::from_slice(alloc, b"lseg")?;
-    Ok(Atom::Pred(Name { bytes, at: 0 }, args))
+    Ok(Atom::Pred(lseg(alloc)?, args))
 }
 
 fn push_atom(alloc: Global, made: &mut Made, letter: u8) -> Result<(), Fail> {
     let atom = match letter {
         b'*' => segment(alloc, made)?,
+        b')' => doubled(alloc, &mut made.words)?,
         _ => of_address(&mut made.words, letter)?,
     };
     Ok(made.atoms.push(atom)?)
@@ -216,13 +236,6 @@ fn of_word(w: Word) -> DArg {
     }
 }
 
-fn of_name(words: &mut List<Word>) -> Result<DArg, Fail> {
-    match word(words)? {
-        Word::Var(Var::Named(x)) => Ok(DArg::Name(x)),
-        _ => Err(Fail::from("a name")),
-    }
-}
-
 fn of_fact(facts: &mut List<Pure>) -> Result<DArg, Fail> {
     match facts.pop() {
         Some(p) => Ok(DArg::Pure(p)),
@@ -230,12 +243,12 @@ fn of_fact(facts: &mut List<Pure>) -> Result<DArg, Fail> {
     }
 }
 
-fn push_arg(made: &mut Made, letter: u8) -> Result<(), Fail> {
+fn push_arg(alloc: Global, made: &mut Made, letter: u8) -> Result<(), Fail> {
     let arg = match letter {
         b',' => of_word(word(&mut made.words)?),
         b'^' => DArg::Arg(Arg::Seq(0, seq(&mut made.seqs)?)),
         b'|' => of_fact(&mut made.facts)?,
-        _ => of_name(&mut made.words)?,
+        _ => DArg::Name(lseg(alloc)?),
     };
     Ok(made.args.push(arg)?)
 }
@@ -331,19 +344,21 @@ fn push_node(alloc: Global, made: &mut Made, letter: u8, many: u8) -> Result<(),
     let rule = rule(letter)?;
     let children = last_trees(alloc, &mut made.trees, many.wrapping_sub(b'0'))?;
     let args = mem::replace(&mut made.args, List::new(alloc));
-    Ok(made.trees.push(Deriv {
-        rule,
-        args,
-        children,
-    })?)
+    Ok(
+        made.trees.push(Deriv {
+            rule,
+            args,
+            children,
+        })?,
+    )
 }
 
 fn push(alloc: Global, made: &mut Made, letter: u8) -> Result<(), Fail> {
     match letter {
         b'A'..=b'Z' | b'[' | b';' | b'.' => push_seq(alloc, made, letter),
         b'=' | b'#' | b'<' | b'{' | b'~' | b'?' | b'!' | b'@' => push_fact(alloc, made, letter),
-        b'>' | b'_' | b']' | b'*' => push_atom(alloc, made, letter),
-        b',' | b'^' | b'|' | b'\'' => push_arg(made, letter),
+        b'>' | b'_' | b']' | b'*' | b')' => push_atom(alloc, made, letter),
+        b',' | b'^' | b'|' | b'"' => push_arg(alloc, made, letter),
         _ => push_word(alloc, &mut made.words, letter),
     }
 }
@@ -363,7 +378,8 @@ fn read(alloc: Global, made: &mut Made, text: &[u8]) -> Result<(), Fail> {
     let mut rest = text;
     while let [letter, more @ ..] = rest {
         rest = more;
-        match (letter, more) {
+        match (*letter, more) {
+            (b' ', _) => {}
             (b'/', [code, many, others @ ..]) => {
                 push_node(alloc, made, *code, *many)?;
                 rest = others;
