@@ -16,12 +16,7 @@ fn equal(alloc: Global, a: &Word, b: &Word) -> Result<Pure, AllocError>
     Ok(Pure::Equal(a, b))
 }
 
-fn push_equal(
-    alloc: Global,
-    out: &mut List<Pure>,
-    a: &Word,
-    b: &Word,
-) -> Result<(), AllocError>
+fn push_equal(alloc: Global, out: &mut List<Pure>, a: &Word, b: &Word) -> Result<(), AllocError>
     ensures { OnOk result (out.new ≡ out.old ++ Pure.Equal a.now b.now ∷ []) }
 {
     let goal = equal(alloc, a, b)?;
