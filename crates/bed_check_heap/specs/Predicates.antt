@@ -55,6 +55,12 @@ unfold_atom d s i n x = Given 3 (declared d x) (λ p. unfold_predicate s i n p.0
 
 -- ---- fold
 
+-- the list is longer by a name with its value; or there is no value
+abbrev pub PushedIf : Bool → List (Name × Arg) → List (Name × Arg) → Name → Option Arg → Type 0
+PushedIf true old new x None = ⊥
+PushedIf true old new x (Some v) = new ≡ old ++ (x, v) ∷ []
+PushedIf false old new x o = o ≡ None
+
 -- the state with a predicate's atom in place of those that are chosen
 abbrev pub folded_state : SymState → List (ℕ × Atom) → Name → List (Name × Arg) → SymState
 folded_state s cs x vs = with_atom (record s { atoms = atoms_left cs 1 s.atoms }) (Pred x (value_args vs))

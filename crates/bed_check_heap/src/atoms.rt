@@ -104,17 +104,33 @@ pub(crate) fn both_taken(
     }
 }
 
+fn cell(alloc: Global, address: &Word, content: &Word) -> Result<Atom, AllocError>
+    ensures { IfOk result (λ r. r ≡ Atom.Cell address.now content.now) }
+{
+    let address = address.copy(alloc)?;
+    let content = content.copy(alloc)?;
+    Ok(Atom::Cell(address, content))
+}
+
+fn block(alloc: Global, address: &Word, words: &Word) -> Result<Atom, AllocError>
+    ensures { IfOk result (λ r. r ≡ Atom.Block address.now words.now) }
+{
+    let address = address.copy(alloc)?;
+    let words = words.copy(alloc)?;
+    Ok(Atom::Block(address, words))
+}
+
 /// Puts a cell at the end, with this content at this address.
 pub(crate) fn add_cell(
     alloc: Global,
     s: &mut SymState,
     address: &Word,
-    content: Word,
+    content: &Word,
 ) -> Result<(), AllocError>
-    ensures { OnOk result (s.new ≡ with_atom s.old (Atom.Cell address.now content)) }
+    ensures { OnOk result (s.new ≡ with_atom s.old (Atom.Cell address.now content.now)) }
 {
-    let address = address.copy(alloc)?;
-    add_atom(s, Atom::Cell(address, content))
+    let atom = cell(alloc, address, content)?;
+    add_atom(s, atom)
 }
 
 /// Puts a block at the end, of these words from this address.
@@ -122,10 +138,10 @@ pub(crate) fn add_block(
     alloc: Global,
     s: &mut SymState,
     address: &Word,
-    words: Word,
+    words: &Word,
 ) -> Result<(), AllocError>
-    ensures { OnOk result (s.new ≡ with_atom s.old (Atom.Block address.now words)) }
+    ensures { OnOk result (s.new ≡ with_atom s.old (Atom.Block address.now words.now)) }
 {
-    let address = address.copy(alloc)?;
-    add_atom(s, Atom::Block(address, words))
+    let atom = block(alloc, address, words)?;
+    add_atom(s, atom)
 }

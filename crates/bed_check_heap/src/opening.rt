@@ -9,19 +9,7 @@ use bed_deriv::{Reading, SymState};
 use bed_lang::{Arg, Assertion, Atom, Bind, List, Name, Pure, Seq, Sort, Term, Tree, Var, Word};
 use std::alloc::{AllocError, Global};
 
-/// A name with its value, at the end of the others.
-pub(crate) fn push_value(
-    alloc: Global,
-    out: &mut List<(Name, Arg)>,
-    name: &Name,
-    value: Arg,
-) -> Result<(), AllocError>
-    ensures { OnOk result (out.new ≡ out.old ++ (name.now, value) ∷ []) }
-{
-    let name = name.copy(alloc)?;
-    out.push((name, value))
-}
-
+// A name with its value, at the end of the others.
 fn push_argument(
     alloc: Global,
     out: &mut List<(Name, Arg)>,
@@ -30,8 +18,9 @@ fn push_argument(
 ) -> Result<(), AllocError>
     ensures { OnOk result (out.new ≡ out.old ++ (bind.now.name, arg.now) ∷ []) }
 {
+    let name = bind.name.copy(alloc)?;
     let value = arg.copy(alloc)?;
-    push_value(alloc, out, &bind.name, value)
+    out.push((name, value))
 }
 
 /// Parameters with their arguments, in order, as far as there are both.
@@ -67,6 +56,18 @@ fn fresh_value(sort: Sort, number: u32) -> Arg
     }
 }
 
+fn push_binder(
+    alloc: Global,
+    out: &mut List<(Name, Arg)>,
+    bind: &Bind,
+    number: u32,
+) -> Result<(), AllocError>
+    ensures { OnOk result (out.new ≡ out.old ++ (bind.now.name, fresh_value bind.now.sort number) ∷ []) }
+{
+    let name = bind.name.copy(alloc)?;
+    out.push((name, fresh_value(bind.sort, number)))
+}
+
 // Each binder with a fresh variable, from this number on.
 fn push_fresh(
     alloc: Global,
@@ -79,7 +80,7 @@ fn push_fresh(
 {
     let mut number = next;
     for binder in binders {
-        push_value(alloc, out, &binder.name, fresh_value(binder.sort, number))?;
+        push_binder(alloc, out, binder, number)?;
         number += 1;
     }
     Ok(())

@@ -211,7 +211,7 @@ fn cell_joined(
 {
     let mut state = without_chosen(alloc, s, cs)?;
     let content = four_bytes(alloc, first.1, second, third, fourth)?;
-    add_cell(alloc, &mut state, first.0, content)?;
+    add_cell(alloc, &mut state, first.0, &content)?;
     Ok(state)
 }
 
@@ -306,7 +306,7 @@ fn cell_from_block(
     ensures { IfOk result (λ r. r ≡ cell_from_block s.now i e.now k.now) }
 {
     let mut state = with_fresh(alloc, s, i, 1)?;
-    add_cell(alloc, &mut state, e, fresh_word(s.next))?;
+    add_cell(alloc, &mut state, e, &fresh_word(s.next))?;
     equal_and_state(alloc, k, 1, state)
 }
 
@@ -348,7 +348,7 @@ fn block_from_cell(alloc: Global, s: &SymState, i: u32, e: &Word) -> Result<Rema
     ensures { IfOk result (λ r. r ≡ block_from_cell s.now i e.now) }
 {
     let mut state = taken(alloc, s, i)?;
-    add_block(alloc, &mut state, e, Word::Number(1))?;
+    add_block(alloc, &mut state, e, &Word::Number(1))?;
     only_state(alloc, state)
 }
 

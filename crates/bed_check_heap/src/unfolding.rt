@@ -50,6 +50,7 @@ fn push_case(
 }
 
 // The states with each case opened.
+#[tactic(auto, using(crate::proofs::RoomLaws::case_fails))]
 fn cases_opened(
     alloc: Global,
     s: &SymState,
@@ -77,7 +78,7 @@ fn with_states(alloc: Global, states: List<SymState>) -> Remainder
 }
 
 // What is left of all cases, in the state without the atom.
-#[tactic(auto, using(crate::proofs::RoomLaws::none_opened))]
+#[tactic(auto, using(crate::proofs::RoomLaws::cases_fail))]
 fn all_cases(
     alloc: Global,
     s: &SymState,
@@ -100,7 +101,8 @@ fn taken_with(
     predicate: &Predicate,
     args: &[Arg],
 ) -> Result<(SymState, List<(Name, Arg)>), AllocError>
-    ensures { IfOk result (λ r. r ≡ (taken s.now i, params_with predicate.now.params args.now)) }
+    ensures state { IfOk result (λ r. r.0 ≡ taken s.now i) }
+    ensures values { IfOk result (λ r. r.1 ≡ params_with predicate.now.params args.now) }
 {
     let state = taken(alloc, s, i)?;
     let values = params_with(alloc, predicate.params.as_slice(), args)?;

@@ -1,9 +1,9 @@
 //! Arguments of a node as values of parameters and binders.
 ghost use Rattle.std.specs.Option.{option_copied};
 ghost use Rattle.std.specs.Prelude.{◌≡◌, IfOk, slice_get};
+ghost use Rattle.bed_check_heap.specs.Predicates.{PushedIf};
 ghost use Rattle.bed_deriv.specs.Arguments.{lone_word, if_known, word_value, seq_value, to_seq, to_word, to_value, to_values};
 
-use crate::opening::push_value;
 use bed_deriv::arguments::word_at;
 use bed_deriv::known::{known_seq, known_var};
 use bed_deriv::{DArg, SymState};
@@ -97,6 +97,27 @@ fn first_value(
     }
 }
 
+// The first argument as the value of a variable, at the end of the others; false where it is none.
+fn push_first(
+    alloc: Global,
+    s: &SymState,
+    out: &mut List<(Name, Arg)>,
+    bind: &Bind,
+    args: &[DArg],
+) -> Result<bool, AllocError>
+    ensures { IfOk result (λ pushed. PushedIf pushed out.old out.new bind.now.name (to_value s.now.next bind.now.sort (slice_get args.now 0))) }
+{
+    let name = bind.name.copy(alloc)?;
+    match first_value(alloc, s, bind.sort, args) {
+        Err(e) => Err(e),
+        Ok(None) => Ok(false),
+        Ok(Some(value)) => match out.push((name, value)) {
+            Err(e) => Err(e),
+            Ok(()) => Ok(true),
+        },
+    }
+}
+
 /// Arguments as values of these variables, in order: each variable with its value. None where an argument
 /// is missing, is none of its variable's sort, or holds a fresh variable that the state doesn't have.
 pub(crate) fn to_values(
@@ -114,9 +135,8 @@ pub(crate) fn to_values(
         match rest {
             [] => return Ok(None),
             [_, others @ ..] => {
-                match first_value(alloc, s, bind.sort, rest)? {
-                    None => return Ok(None),
-                    Some(value) => push_value(alloc, &mut out, &bind.name, value)?,
+                if !push_first(alloc, s, &mut out, bind, rest)? {
+                    return Ok(None);
                 }
                 rest = others;
             }

@@ -1,5 +1,5 @@
 -- The sum of a comb is that of its pairs, and is made from the last one on.
-use Rattle.std.proofs.Common.{◌≡◌, ◌<◌, ◌≤◌, ℕ, suc, zero, ◌+◌, ◌*◌, Bool, true, false, ◌&&◌, List, [], ◌∷◌, length, drop, is_some, Option, Some, None, Result, Ok, Err, refl, sym, ap, ◌∙◌, subst, arith}
+use Rattle.std.proofs.Common.{◌≡◌, ◌<◌, ◌≤◌, ℕ, suc, zero, ◌+◌, ◌-◌, ◌*◌, Bool, true, false, ◌&&◌, List, [], ◌∷◌, length, drop, is_some, Option, Some, None, refl, sym, ap, ◌∙◌, subst, arith}
 use Rattle.std.proofs.lemmas.List.{length-drop, drop-drop}
 use Rattle.bed_machine.proofs.WordLaws.{some_same}
 use Rattle.bed_lang.specs.declared.form.Form.{Form}
@@ -73,11 +73,19 @@ module _ (s : SymState) where
       by _ = refl
 
   -- from the last pair on: the sum behind some pairs is that behind one more, with the pair between them before it
-  pub one_more : (args : List DArg) (k : ℕ) → 2 * suc k ≤ length args
+  one_more : (args : List DArg) (k : ℕ) → 2 * suc k ≤ length args
       → sum_at s (drop (2 * k) args) ≡ pair_sum (fact_at s (drop (2 * k) args) 0) (number_at (drop (2 * k) args) 1) (sum_at s (drop (2 * suc k) args))
   one_more args k l =
       two (drop (2 * k) args) (let d = length-drop (2 * k) args in omega (arith, d, l))
       ∙ ap (λ z. pair_sum (fact_at s (drop (2 * k) args) 0) (number_at (drop (2 * k) args) 1) (sum_at s z)) (drop-drop 2 (2 * k) args ∙ ap (λ n. drop n args) (omega arith))
+
+  pub pair_before_sum : (args : List DArg) (n : ℕ) (total : Form) → 0 < n → 2 * n ≤ length args → sum_at s (drop (2 * n) args) ≡ Some total
+      → sum_at s (drop (2 * (n - 1)) args) ≡ pair_sum (fact_at s (drop (2 * (n - 1)) args) 0) (number_at (drop (2 * (n - 1)) args) 1) (Some total)
+  pair_before_sum args zero total h l e = absurd (omega (arith, h))
+  pair_before_sum args (suc k) total h l e =
+      let same : k ≡ suc k - 1 = omega arith in
+      subst (λ m. sum_at s (drop (2 * m) args) ≡ pair_sum (fact_at s (drop (2 * m) args) 0) (number_at (drop (2 * m) args) 1) (Some total)) same
+      (one_more args k l ∙ ap (pair_sum (fact_at s (drop (2 * k) args) 0) (number_at (drop (2 * k) args) 1)) e)
 
   pub none_before : (args : List DArg) (k : ℕ) → 2 * k ≤ length args → sum_at s (drop (2 * k) args) ≡ None → sum_at s args ≡ None
   none_before args zero l e = e

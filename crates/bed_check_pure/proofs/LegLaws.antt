@@ -11,16 +11,14 @@ use Rattle.bed_deriv.specs.declared.derivation.DArg.TheVariants as given
 use Rattle.bed_deriv.specs.declared.derivation.Edge.{Edge}
 use Rattle.bed_deriv.specs.declared.derivation.Edge.TheVariants.{F, G, X, Y, P, Q, R, S, K, Z, H}
 use Rattle.bed_deriv.specs.declared.state.SymState.{SymState}
-use Rattle.bed_deriv.specs.declared.state.Sequent.{Sequent}
 use Rattle.bed_deriv.specs.Arguments.{numbered}
 use Rattle.bed_deriv.specs.Chains.{Leg, forth, back, exact_forth, exact_back, from_one_more, to_one_more, to_one_less, from_one_less, of_fact, edge, left_word, legs, closes, goal_start, fact_start, chain_start}
 use Rattle.bed_deriv.specs.Checks.{Goals, Needs, Leaves, first_failure, when, Given}
 use Rattle.bed_check_pure.specs.declared.legs.Ends.{Ends}
-use Rattle.bed_check_pure.specs.declared.legs.Reached.{Reached}
-use Rattle.bed_check_pure.specs.Legs.{as_ends, ends_or, ends_by, fact_ends, number_ends, edge_ends, after, moved, one_edge, all_edges, form_or, from_of, first_node, chain_end, chain_from, whole_chain, chain_of, reach}
+use Rattle.bed_check_pure.specs.Legs.{ends_or, ends_by, fact_ends, number_ends, edge_ends, after, moved, all_edges, form_or, from_of, first_node, chain_from, whole_chain, chain_of, reach}
 
 -- an edge's ends as the rule has them
-as_leg : Ends → Leg
+abbrev as_leg : Ends → Leg
 as_leg l = record { from = l.from; to = l.to; up = l.up; down = l.down }
 
 fact_is : (s : SymState) (i : ℕ) (f : Pure → Option Leg) (go : Leg → Goals)

@@ -19,7 +19,7 @@ use Rattle.bed_deriv.specs.declared.state.SymState.{SymState}
 use Rattle.bed_deriv.specs.declared.state.Sequent.{Sequent}
 use Rattle.bed_deriv.specs.declared.state.Remainder.{Remainder}
 use Rattle.bed_deriv.specs.Arguments.{numbered, at_number, to_number, number_at, name_at, to_value, value_before, named, to_values, counts}
-use Rattle.bed_deriv.specs.Checks.{Step, Needs, Given, Fails, Leaves, when, first_failure, have_room, left_states, states_of, with_room, remainder, leaves}
+use Rattle.bed_deriv.specs.Checks.{Step, Needs, Given, Fails, Leaves, when, first_failure, have_room, left_states, remainder, leaves}
 use Rattle.bed_deriv.specs.Matches.{with_number, atom_numbered, choice_before, chosen}
 use Rattle.bed_deriv.specs.HeapRules.{claim, case_split, never, unfold_rule, beside, predicate_of, fold_rule, append_rule, divide, merge, shape, block_of, cell_of, four_chosen, Shape, CellToBytes, BytesToCell, BlockToCell, CellToBlock, DropBlock, shapes, shape_of}
 use Rattle.bed_deriv.specs.Derives.{refused}

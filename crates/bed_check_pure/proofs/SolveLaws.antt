@@ -8,7 +8,6 @@ use Rattle.std.specs.Ordering.{nat_cmp}
 use Rattle.std.proofs.lemmas.Bool.{and_parts, both_ways}
 use Rattle.bed_machine.specs.Memory.{Memory}
 use Rattle.bed_lang.specs.declared.word.Var.{Var}
-use Rattle.bed_lang.specs.declared.word.Var.TheVariants as var
 use Rattle.bed_lang.specs.declared.word.Word.{Word, Var as WordVar}
 use Rattle.bed_lang.specs.declared.word.Seq.{Seq, Var as SeqVar}
 use Rattle.bed_lang.specs.declared.form.Key.{Key}

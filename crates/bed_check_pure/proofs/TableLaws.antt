@@ -60,9 +60,11 @@ module _ (w : World) (ν : Values) (h : Memory) (q : Sequent) (args : List DArg)
   goal_is_fact r ForSteps e = absurd (cc)
   goal_is_fact r ForEnds e = absurd (cc)
 
-  -- and so do those of a rule at a fact
-  pub goal_sound : LabelsFit w → (r : Rule) → goal_table w.decls r q args n ≡ Ok goals → Suffice
-  goal_sound fits r e = fact_sound fits r (goal_is_fact r (purpose r) e)
+-- and so do those of a rule at a fact
+pub goal_sound : (w : World) (ν : Values) (h : Memory) (q : Sequent) (args : List DArg) (n : ℕ) (goals : List Sequent) → LabelsFit w → (r : Rule)
+    → goal_table w.decls r q args n ≡ Ok goals → Suffice w ν h q args n goals
+unfolding goal_table
+goal_sound w ν h q args n goals fits r e = fact_sound w ν h q args n goals fits r (goal_is_fact w ν h q args n goals r (purpose r) e)
 
 -- ---- the laws
 

@@ -19,7 +19,7 @@ at_fact d ForStates r q args n = refused (remainder (heap_rule d r q.state args 
 at_fact d ForSteps r q args n = Err 3
 at_fact d ForEnds r q args n = Err 3
 
-abbrev pub goal_table : Decls → Table Sequent
+unfoldable pub goal_table : Decls → Table Sequent
 goal_table d r q args n = at_fact d (purpose r) r q args n
 
 -- the walk of a tree for a goal in a state; its root has number 1

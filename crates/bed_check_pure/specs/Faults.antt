@@ -1,9 +1,8 @@
 -- What the code of a rule answers: the premises' answer, but for want of memory.
-use Rattle.std.specs.Prelude.{◌≡◌, ℕ, List, [], ◌∷◌, Option, Result, Ok, Err}
+use Rattle.std.specs.Prelude.{◌≡◌, ℕ, [], ◌∷◌, Option, Result, Ok, Err}
 use Rattle.bed_lang.specs.declared.logic.Pure.{Pure}
 use Rattle.bed_lang.specs.SameFacts.{same_facts}
 use Rattle.bed_deriv.specs.declared.state.SymState.{SymState}
-use Rattle.bed_deriv.specs.declared.state.Sequent.{Sequent}
 use Rattle.bed_deriv.specs.Walk.{Walked}
 use Rattle.bed_check_pure.specs.declared.verdict.Verdict.{Verdict}
 use Rattle.bed_check_pure.specs.declared.verdict.Verdict.TheVariants as verdict

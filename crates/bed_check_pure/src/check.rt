@@ -86,7 +86,7 @@ pub fn fact_rule(
 /// # Errors
 /// The first premise that fails; where none does and the rule isn't for facts, the third. `Memory` for want
 /// of memory.
-#[tactic(auto, using(crate::proofs::RefusalLaws::claim_is, crate::proofs::RefusalLaws::when_is, crate::proofs::RefusalLaws::never_is, crate::proofs::RefusalLaws::unfold_is, crate::proofs::RefusalLaws::fold_is, crate::proofs::RefusalLaws::append_is, crate::proofs::RefusalLaws::divide_is, crate::proofs::RefusalLaws::merge_is, crate::proofs::RefusalLaws::shape_is))]
+#[tactic(auto, using(crate::proofs::RefusalLaws::claim_is, crate::proofs::RefusalLaws::when_is, crate::proofs::RefusalLaws::never_is, crate::proofs::RefusalLaws::unfold_is, crate::proofs::RefusalLaws::fold_is, crate::proofs::RefusalLaws::append_is, crate::proofs::RefusalLaws::divide_is, crate::proofs::RefusalLaws::merge_is, crate::proofs::RefusalLaws::shape_is), unfolding(crate::specs::Answers::goal_table))]
 pub fn goal_rule(
     alloc: Global,
     decls: &Decls,

@@ -19,4 +19,5 @@ mod verdict;
 
 pub use check::{check_pure, check_sequent, fact_rule, goal_rule};
 pub use fault::Fault;
+pub use rules::negated;
 pub use verdict::Verdict;

@@ -2,7 +2,6 @@
 ghost use Rattle.std.specs.Option.{option_copied};
 ghost use Rattle.std.specs.Prelude.{◌≡◌, ◌∷◌, ◌++◌, [], IfOk, OnOk};
 ghost use Rattle.bed_lang.specs.Forms.{seq_form};
-ghost use Rattle.bed_lang.specs.SameFacts.{same_facts};
 ghost use Rattle.bed_forms.specs.Rebuilt.{form_word, pieces_seq};
 ghost use Rattle.bed_deriv.specs.Checks.{first_failure, sequent, with_fact};
 ghost use Rattle.bed_deriv.specs.ListRules.{uncons, void, member, lacks, part, one, in_piece, not_in_piece, has_element, is_void, lacking, with_piece};
@@ -10,9 +9,11 @@ ghost use Rattle.bed_check_pure.specs.Faults.{AnswersRule, says};
 ghost use Rattle.bed_check_pure.specs.Pieces.{void_fact, member_piece, member_goal, lacks_pieces, part_piece, part_fact, one_pieces, one_fact, uncons_pieces, uncons_fact};
 
 use crate::fault::Fault;
+use crate::goals::one_sequent;
+use crate::rules::{alone, says_first};
 use bed_deriv::arguments::{fact_at, number_at, numbered};
 use bed_deriv::{DArg, Sequent, SymState};
-use bed_forms::{Piece, form_word, pieces_seq, same_facts, seq_form};
+use bed_forms::{Piece, form_word, pieces_seq, seq_form};
 use bed_lang::{Form, List, Pure, Seq, Var, Word};
 use std::alloc::{AllocError, Global};
 
@@ -66,14 +67,6 @@ fn not_in_piece(alloc: Global, e: &Word, piece: &Piece) -> Result<Pure, AllocErr
         Piece::Element(form) => element_is_not(alloc, e, form),
         Piece::Sequence(v) => variable_lacks(alloc, e, v),
     }
-}
-
-fn one_sequent(alloc: Global, q: Sequent) -> Result<List<Sequent>, AllocError>
-    ensures { IfOk result (λ r. r ≡ q ∷ []) }
-{
-    let mut out = List::new(alloc);
-    out.push(q)?;
-    Ok(out)
 }
 
 // ---- void
@@ -311,19 +304,11 @@ pub(crate) fn lacks(
 
 // ---- part
 
-fn says_this(alloc: Global, goal: &Pure, p: Pure) -> Result<bool, AllocError>
-    ensures { IfOk result (λ r. r ≡ same_facts goal.now p) }
+fn not_in_alone(alloc: Global, e: &Word, piece: &Piece) -> Result<List<Pure>, AllocError>
+    ensures { IfOk result (λ r. r ≡ not_in_piece e.now piece.now ∷ []) }
 {
-    same_facts(alloc, goal, &p)
-}
-
-fn says_not_in(alloc: Global, goal: &Pure, e: &Word, piece: &Piece) -> Result<bool, AllocError>
-    ensures { IfOk result (λ r. r ≡ same_facts goal.now (not_in_piece e.now piece.now)) }
-{
-    match not_in_piece(alloc, e, piece) {
-        Err(e) => Err(e),
-        Ok(p) => says_this(alloc, goal, p),
-    }
+    let p = not_in_piece(alloc, e, piece)?;
+    alone(alloc, p)
 }
 
 fn apart_from(
@@ -334,13 +319,9 @@ fn apart_from(
 ) -> Result<List<Sequent>, Fault>
     ensures { AnswersRule result (first_failure (says (option_copied goal.entry) (not_in_piece e.now piece.now))) }
 {
-    match goal {
-        None => Err(Fault::Condition),
-        Some(g) => match says_not_in(alloc, g, e, piece) {
-            Err(_) => Err(Fault::Memory),
-            Ok(true) => Ok(List::new(alloc)),
-            Ok(false) => Err(Fault::Condition),
-        },
+    match not_in_alone(alloc, e, piece) {
+        Err(_) => Err(Fault::Memory),
+        Ok(facts) => says_first(alloc, goal, facts.as_slice()),
     }
 }
 

@@ -1,9 +1,9 @@
 //! The rule that solves an equation for a variable.
 ghost use Rattle.std.specs.Option.{option_copied, option_map};
-ghost use Rattle.std.specs.Prelude.{◌≡◌, ◌∷◌, ◌++◌, [], IfOk, OnOk, bytes_eq, map};
+ghost use Rattle.std.specs.Prelude.{◌≡◌, ◌∷◌, ◌++◌, [], IfOk, OnOk, bytes_eq, map, slice_get};
 ghost use Rattle.bed_lang.specs.Keys.{same_key, key_text};
 ghost use Rattle.bed_lang.specs.Forms.{seq_form, times_form};
-ghost use Rattle.bed_forms.specs.Rebuilt.{form_word};
+ghost use Rattle.bed_forms.specs.Rebuilt.{form_word, pieces_seq};
 ghost use Rattle.bed_lang.specs.Coefficients.{coefficient_in};
 ghost use Rattle.bed_lang.specs.Differences.{difference};
 ghost use Rattle.bed_deriv.specs.Opening.{word_set, seq_set, replaced_fact, replaced_atom};
@@ -14,6 +14,7 @@ ghost use Rattle.bed_check_pure.specs.Faults.{AnswersRule};
 ghost use Rattle.bed_check_pure.specs.Solutions.{replaced_by, solve_goal, solve_fact, solve_variable};
 
 use crate::fault::Fault;
+use crate::goals::one_sequent;
 use crate::variables::variable_at;
 use bed_deriv::arguments::fact_at;
 use bed_deriv::read::{read_atom_anew, read_fact_anew};
@@ -105,17 +106,55 @@ fn minus_rest(alloc: Global, v: &Var, form: &Form) -> Result<Word, AllocError>
     minus_word(alloc, &rest)
 }
 
-// The value of a variable whose sum with the rest of a form is 0.
-fn solved_by(alloc: Global, v: &Var, form: &Form) -> Result<Option<Word>, AllocError>
-    ensures { IfOk result (λ r. option_map (word_set v.now) r ≡ solved_by v.now form.now (coefficient_in (Key.Var v.now) form.now.parts)) }
+// A list of one word, and of one sequence. (One of its own that is alive where a call fails is dear to prove.)
+fn word_alone(alloc: Global, w: Word) -> Result<List<Word>, AllocError>
+    ensures { IfOk result (λ r. r ≡ w ∷ []) }
+{
+    let mut out = List::new(alloc);
+    out.push(w)?;
+    Ok(out)
+}
+
+fn seq_alone(alloc: Global, s: Seq) -> Result<List<Seq>, AllocError>
+    ensures { IfOk result (λ r. r ≡ s ∷ []) }
+{
+    let mut out = List::new(alloc);
+    out.push(s)?;
+    Ok(out)
+}
+
+fn minus_rest_alone(alloc: Global, v: &Var, form: &Form) -> Result<List<Word>, AllocError>
+    ensures { IfOk result (λ r. r ≡ form_word (times_form 4294967295 (form_but v.now form.now)) ∷ []) }
+{
+    let w = minus_rest(alloc, v, form)?;
+    word_alone(alloc, w)
+}
+
+fn rest_alone(alloc: Global, v: &Var, form: &Form) -> Result<List<Word>, AllocError>
+    ensures { IfOk result (λ r. r ≡ form_word (form_but v.now form.now) ∷ []) }
+{
+    let w = rest_word(alloc, v, form)?;
+    word_alone(alloc, w)
+}
+
+fn pieces_alone(alloc: Global, pieces: &[Piece]) -> Result<List<Seq>, AllocError>
+    ensures { IfOk result (λ r. r ≡ pieces_seq pieces.now ∷ []) }
+{
+    let s = pieces_seq(alloc, pieces)?;
+    seq_alone(alloc, s)
+}
+
+// The value of a variable whose sum with the rest of a form is 0, as the one item of a list.
+fn solved_by(alloc: Global, v: &Var, form: &Form) -> Result<List<Word>, AllocError>
+    ensures { IfOk result (λ r. option_map (word_set v.now) (slice_get r 0) ≡ solved_by v.now form.now (coefficient_in (Key.Var v.now) form.now.parts)) }
 {
     let times = coefficient(v, form.parts.as_slice());
     if times == 1 {
-        Ok(Some(minus_rest(alloc, v, form)?))
+        minus_rest_alone(alloc, v, form)
     } else if times == 4_294_967_295 {
-        Ok(Some(rest_word(alloc, v, form)?))
+        rest_alone(alloc, v, form)
     } else {
-        Ok(None)
+        Ok(List::new(alloc))
     }
 }
 
@@ -144,21 +183,22 @@ fn has_sequence(v: &Var, pieces: &[Piece]) -> bool
     false
 }
 
-// The value of a sequence variable that is one side of an equation, and not in the other.
+// The value of a sequence variable that is one side of an equation and not in the other, as the one item of
+// a list.
 fn solved_sequence(
     alloc: Global,
     v: &Var,
     ps: &[Piece],
     qs: &[Piece],
-) -> Result<Option<Seq>, AllocError>
-    ensures { IfOk result (λ r. option_map (seq_set v.now) r ≡ solved_sequence v.now ps.now qs.now) }
+) -> Result<List<Seq>, AllocError>
+    ensures { IfOk result (λ r. option_map (seq_set v.now) (slice_get r 0) ≡ solved_sequence v.now ps.now qs.now) }
 {
     if is_just(v, ps) && !has_sequence(v, qs) {
-        Ok(Some(pieces_seq(alloc, qs)?))
+        pieces_alone(alloc, qs)
     } else if is_just(v, qs) && !has_sequence(v, ps) {
-        Ok(Some(pieces_seq(alloc, ps)?))
+        pieces_alone(alloc, ps)
     } else {
-        Ok(None)
+        Ok(List::new(alloc))
     }
 }
 
@@ -228,11 +268,9 @@ fn replaced(
 ) -> Result<List<Sequent>, AllocError>
     ensures { IfOk result (λ r. r ≡ replaced_by (instance_of reading.now) s.now goal.now) }
 {
-    let mut out = List::new(alloc);
     let state = state_anew(alloc, reading, s)?;
     let goal = read_fact_anew(alloc, reading, goal)?;
-    out.push(Sequent { state, goal })?;
-    Ok(out)
+    one_sequent(alloc, Sequent { state, goal })
 }
 
 fn with_word(
@@ -240,13 +278,13 @@ fn with_word(
     s: &SymState,
     goal: &Pure,
     v: &Var,
-    value: Option<Word>,
+    values: &[Word],
 ) -> Result<List<Sequent>, Fault>
-    ensures { AnswersRule result (first_failure (solve_goal s.now goal.now (option_map (word_set v.now) value))) }
+    ensures { AnswersRule result (first_failure (solve_goal s.now goal.now (option_map (word_set v.now) (slice_get values.now 0)))) }
 {
-    match value {
+    match values.get(0) {
         None => Err(Fault::Condition),
-        Some(w) => match replaced(alloc, &Reading::Word(v, &w), s, goal) {
+        Some(w) => match replaced(alloc, &Reading::Word(v, w), s, goal) {
             Ok(goals) => Ok(goals),
             Err(_) => Err(Fault::Memory),
         },
@@ -258,28 +296,28 @@ fn with_sequence(
     s: &SymState,
     goal: &Pure,
     v: &Var,
-    value: Option<Seq>,
+    values: &[Seq],
 ) -> Result<List<Sequent>, Fault>
-    ensures { AnswersRule result (first_failure (solve_goal s.now goal.now (option_map (seq_set v.now) value))) }
+    ensures { AnswersRule result (first_failure (solve_goal s.now goal.now (option_map (seq_set v.now) (slice_get values.now 0)))) }
 {
-    match value {
+    match values.get(0) {
         None => Err(Fault::Condition),
-        Some(t) => match replaced(alloc, &Reading::Seq(v, &t), s, goal) {
+        Some(t) => match replaced(alloc, &Reading::Seq(v, t), s, goal) {
             Ok(goals) => Ok(goals),
             Err(_) => Err(Fault::Memory),
         },
     }
 }
 
-fn word_value(alloc: Global, v: &Var, a: &Word, b: &Word) -> Result<Option<Word>, AllocError>
-    ensures { IfOk result (λ r. option_map (word_set v.now) r ≡ solved_by v.now (difference a.now b.now) (coefficient_in (Key.Var v.now) (difference a.now b.now).parts)) }
+fn word_value(alloc: Global, v: &Var, a: &Word, b: &Word) -> Result<List<Word>, AllocError>
+    ensures { IfOk result (λ r. option_map (word_set v.now) (slice_get r 0) ≡ solved_by v.now (difference a.now b.now) (coefficient_in (Key.Var v.now) (difference a.now b.now).parts)) }
 {
     let form = difference(alloc, a, b)?;
     solved_by(alloc, v, &form)
 }
 
-fn sequence_value(alloc: Global, v: &Var, a: &Seq, b: &Seq) -> Result<Option<Seq>, AllocError>
-    ensures { IfOk result (λ r. option_map (seq_set v.now) r ≡ solved_sequence v.now (seq_form a.now) (seq_form b.now)) }
+fn sequence_value(alloc: Global, v: &Var, a: &Seq, b: &Seq) -> Result<List<Seq>, AllocError>
+    ensures { IfOk result (λ r. option_map (seq_set v.now) (slice_get r 0) ≡ solved_sequence v.now (seq_form a.now) (seq_form b.now)) }
 {
     let ps = seq_form(alloc, a)?;
     let qs = seq_form(alloc, b)?;
@@ -298,7 +336,7 @@ fn solve_words(
 {
     match word_value(alloc, v, a, b) {
         Err(_) => Err(Fault::Memory),
-        Ok(value) => with_word(alloc, s, goal, v, value),
+        Ok(values) => with_word(alloc, s, goal, v, values.as_slice()),
     }
 }
 
@@ -314,7 +352,7 @@ fn solve_sequences(
 {
     match sequence_value(alloc, v, a, b) {
         Err(_) => Err(Fault::Memory),
-        Ok(value) => with_sequence(alloc, s, goal, v, value),
+        Ok(values) => with_sequence(alloc, s, goal, v, values.as_slice()),
     }
 }
 
@@ -339,15 +377,15 @@ fn solve_variable(
     s: &SymState,
     goal: Option<&Pure>,
     p: &Pure,
-    v: Option<Var>,
+    found: &[Var],
 ) -> Result<List<Sequent>, Fault>
-    ensures { AnswersRule result (first_failure (solve_variable s.now (option_copied goal.entry) p.now v)) }
+    ensures { AnswersRule result (first_failure (solve_variable s.now (option_copied goal.entry) p.now (slice_get found.now 0))) }
 {
-    match v {
+    match found.get(0) {
         None => Err(Fault::Argument),
         Some(v) => match goal {
             None => Err(Fault::Condition),
-            Some(g) => solve_fact(alloc, s, g, &v, p),
+            Some(g) => solve_fact(alloc, s, g, v, p),
         },
     }
 }
@@ -369,7 +407,7 @@ pub(crate) fn solve(
         None => Err(Fault::Argument),
         Some(p) => match variable_at(alloc, s, args, 1) {
             Err(_) => Err(Fault::Memory),
-            Ok(v) => solve_variable(alloc, s, goal, p, v),
+            Ok(found) => solve_variable(alloc, s, goal, p, found.as_slice()),
         },
     }
 }

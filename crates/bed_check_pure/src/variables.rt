@@ -1,11 +1,11 @@
 //! An argument read as a variable of either sort.
 ghost use Rattle.std.specs.Option.{option_copied};
-ghost use Rattle.std.specs.Prelude.{◌≡◌, IfOk};
+ghost use Rattle.std.specs.Prelude.{◌≡◌, ◌∷◌, [], IfOk, slice_get};
 ghost use Rattle.bed_deriv.specs.Arguments.{lone_word, lone_seq, if_known, variable_at};
 
 use bed_deriv::known::known_var;
 use bed_deriv::{DArg, SymState};
-use bed_lang::{Arg, Seq, Var, Word};
+use bed_lang::{Arg, List, Name, Seq, Var, Word};
 use std::alloc::{AllocError, Global};
 
 // The variable that a word just is, where it is known.
@@ -28,29 +28,51 @@ fn lone_seq(next: u32, s: &Seq) -> Option<&Var>
     }
 }
 
-fn copied(alloc: Global, found: Option<&Var>) -> Result<Option<Var>, AllocError>
-    ensures { IfOk result (λ r. r ≡ option_copied found.entry) }
+fn alone(alloc: Global, v: Var) -> Result<List<Var>, AllocError>
+    ensures { IfOk result (λ r. r ≡ v ∷ []) }
+{
+    let mut out = List::new(alloc);
+    out.push(v)?;
+    Ok(out)
+}
+
+fn copied(alloc: Global, v: &Var) -> Result<List<Var>, AllocError>
+    ensures { IfOk result (λ r. r ≡ v.now ∷ []) }
+{
+    let v = v.copy(alloc)?;
+    alone(alloc, v)
+}
+
+fn of_name(alloc: Global, x: &Name) -> Result<List<Var>, AllocError>
+    ensures { IfOk result (λ r. r ≡ Var.Named x.now ∷ []) }
+{
+    let x = x.copy(alloc)?;
+    alone(alloc, Var::Named(x))
+}
+
+fn if_found(alloc: Global, found: Option<&Var>) -> Result<List<Var>, AllocError>
+    ensures { IfOk result (λ r. slice_get r 0 ≡ option_copied found.entry) }
 {
     match found {
-        None => Ok(None),
-        Some(v) => Ok(Some(v.copy(alloc)?)),
+        None => Ok(List::new(alloc)),
+        Some(v) => copied(alloc, v),
     }
 }
 
-/// The argument at a place as a variable: a name, or a variable alone; None where it is none, or a fresh
-/// one that the state doesn't have.
+/// The argument at a place as a variable, the one item of a list: a name, or a variable alone. The list has
+/// none where it is none, or a fresh one that the state doesn't have.
 pub(crate) fn variable_at(
     alloc: Global,
     s: &SymState,
     args: &[DArg],
     at: usize,
-) -> Result<Option<Var>, AllocError>
-    ensures { IfOk result (λ r. r ≡ variable_at s.now args.now at) }
+) -> Result<List<Var>, AllocError>
+    ensures { IfOk result (λ r. slice_get r 0 ≡ variable_at s.now args.now at) }
 {
     match args.get(at) {
-        Some(DArg::Name(x)) => Ok(Some(Var::Named(x.copy(alloc)?))),
-        Some(DArg::Arg(Arg::Word(_, w))) => copied(alloc, lone_word(s.next, w)),
-        Some(DArg::Arg(Arg::Seq(_, t))) => copied(alloc, lone_seq(s.next, t)),
-        _ => Ok(None),
+        Some(DArg::Name(x)) => of_name(alloc, x),
+        Some(DArg::Arg(Arg::Word(_, w))) => if_found(alloc, lone_word(s.next, w)),
+        Some(DArg::Arg(Arg::Seq(_, t))) => if_found(alloc, lone_seq(s.next, t)),
+        _ => Ok(List::new(alloc)),
     }
 }
