@@ -16,10 +16,10 @@ use Rattle.bed_deriv.specs.declared.state.SymState.{SymState}
 use Rattle.bed_deriv.specs.Arguments.{to_values}
 use Rattle.bed_deriv.specs.HeapRules.{fresh_word}
 use Rattle.bed_deriv.specs.Checks.{Check, Given, Fails, Leaves, first_failure, with_room}
-use Rattle.bed_deriv.specs.Steps.{goes_on, onward_states, set_local, after_call}
+use Rattle.bed_deriv.specs.Steps.{goes_on, onward_states, operand_terms, set_local, after_call}
 use Rattle.bed_check_cond.specs.declared.point.Moved.{Moved}
 use Rattle.bed_check_cond.specs.Points.{called}
-use Rattle.bed_check_cond.specs.Parts.{opened_after, opened_if, state_after, call_values, call_chosen, call_from}
+use Rattle.bed_check_cond.specs.Parts.{opened_after, opened_if, state_after, call_values, call_chosen, call_from, call_found, call_worded}
 use Rattle.bed_check_cond.proofs.RoomLemmas.{full_refused}
 
 module _ (r : Rest) (S : Signature) (ws : List Word) (vs : List (Name × Arg)) (cs : List (ℕ × Atom)) (into : Name) (after : Assertion) (goals : List Pure) where
@@ -83,3 +83,10 @@ module _ (r : Rest) (S : Signature) (target : Operand) (via : Option Name) (oper
       by None p e = let same : 2 ≡ k = cc in ap (λ (m : ℕ). first_failure {A = Onward} (Fails m)) same
       by (Some x) None e = let same : 2 ≡ k = cc in ap (λ (m : ℕ). first_failure {A = Onward} (Fails m)) same
       by (Some x) (Some y) e = absurd cc
+
+-- the operands of a call have terms
+pub worded : (r : Rest) (S : Signature) (target : Operand) (via : Option Name) (operands : List Operand) (into : Name) (after : Assertion)
+    (vs bs : List (Name × Arg)) (cs : List (ℕ × Atom)) (ws : List Word) → operand_terms r.state.locals operands ≡ Some ws
+    → first_failure (call_found r S target via operands into after vs bs cs) ≡ first_failure (call_worded r S target via into after vs bs cs ws)
+worded r S target via operands into after vs bs cs ws e =
+    ap (λ (o : Option (List Word)). first_failure (Given 3 o (λ us. call_worded r S target via into after vs bs cs us))) e

@@ -1,15 +1,26 @@
 -- The turns of the walk of trees for facts.
-use Rattle.std.proofs.Common.{◌≡◌, ℕ, zero, suc, ◌+◌, ◌<◌, ◌≤◌, List, [], ◌∷◌, ◌++◌, map, drop, length, Option, Some, None, slice_get, Result, Ok, Err, refl, ap, sym, ◌∙◌, subst, arith}
-use Rattle.std.proofs.lemmas.List.{append-nil, length-map}
+use Rattle.std.proofs.Common.{◌≡◌, ℕ, zero, suc, ◌+◌, ◌-◌, ◌<◌, ◌≤◌, true, false, get_or, take, List, [], ◌∷◌, ◌++◌, map, drop, length, Option, Some, None, slice_get, Result, Ok, Err, refl, ap, sym, ◌∙◌, subst, arith}
+use Rattle.std.proofs.lemmas.List.{append-nil, length-map, take_all}
 use Rattle.bed_lang.specs.declared.condition.Decls.{Decls}
 use Rattle.bed_deriv.specs.declared.derivation.Deriv.{Deriv, out-Deriv, fold_out-Deriv}
 use Rattle.bed_deriv.specs.declared.state.Sequent.{Sequent}
 use Rattle.bed_deriv.specs.Walk.{Walk, Walked, and_then, walk_all, walk_below, walk_step, walk}
-use Rattle.bed_check_pure.specs.Answers.{goal_table}
+use Rattle.bed_deriv.specs.declared.derivation.Rule.{Rule}
+use Rattle.bed_deriv.specs.declared.derivation.DArg.{DArg}
+use Rattle.bed_deriv.specs.declared.state.SymState.{SymState}
+use Rattle.bed_lang.specs.declared.logic.Pure.{Pure}
+use Rattle.bed_deriv.specs.Checks.{sequent, outcome}
+use Rattle.bed_deriv.specs.Derives.{Purpose, ForFacts, ForStates, ForSteps, ForEnds, purpose, refused as refused_by, pure_rule}
+use Rattle.bed_check_pure.specs.declared.fault.Fault.{Fault}
+use Rattle.bed_check_pure.specs.declared.verdict.Verdict.{Verdict}
+use Rattle.bed_check_pure.specs.declared.verdict.Verdict.TheVariants.{Reject, Memory}
+use Rattle.bed_check_pure.specs.Faults.{AnswersRule}
+use Rattle.bed_check_pure.specs.Answers.{at_fact, goal_table}
+use Rattle.bed_check_heap.specs.Steps.{at_state}
 use Rattle.bed_check_cond.specs.declared.facts.Goals.{Goals}
 use Rattle.bed_check_cond.specs.declared.facts.Descent.{Descent}
 use Rattle.bed_check_cond.specs.Stack.{left_walk, size, children_size}
-use Rattle.bed_check_cond.specs.Facts.{goals_walk, goals_waiting_for, goals_waiting, goals_size, goals_left_size, AnswersGoalsTurn}
+use Rattle.bed_check_cond.specs.Facts.{goals_walk, goals_waiting_for, goals_waiting, goals_size, goals_left_size, is_for_states, is_for_paths, refused_goals, AnswersGoals, AnswersGoalsTurn}
 use Rattle.bed_check_cond.proofs.RestsLemmas.{then_same}
 use Rattle.bed_check_cond.proofs.StackLemmas.{left_last, turn_spent, turn_refused}
 use Rattle.bed_check_cond.proofs.TurnLemmas.{then_end, node_size}
@@ -34,6 +45,51 @@ next_left w ws ts at n t e =
     let more : suc at ≡ at + 1 = omega arith in
     ap (λ us. walk_all (w ∷ ws) us n) (next_after ts at t e) ∙ ap (λ k. and_then (w t n) (walk_all ws (drop k ts))) more
 
+-- a list is its first item and the others
+pub list_is : {A : Type 0} (xs : List A) (x : A) → x ≡ get_or xs 0 x → 1 ≤ length xs → xs ≡ x ∷ take (length xs - 1) (drop 1 xs)
+list_is [] x e h = absurd (omega (arith, h))
+list_is (y ∷ ys) x e h =
+    let first : y ≡ x = sym e in
+    let others : ys ≡ take (length (y ∷ ys) - 1) ys = sym (take_all (length (y ∷ ys) - 1) ys (omega arith)) in
+    ap (λ z. z ∷ ys) first ∙ ap (λ zs. x ∷ zs) others
+
+-- ---- rules at a fact
+
+module _ (d : Decls) (u : Rule) (s : SymState) (goal : Pure) (args : List DArg) (n : ℕ) where
+  states_at : (p : Purpose) (f : Fault) → is_for_states p ≡ true → AnswersRule {A = List Sequent} (Err f) (refused_by (at_state d p u s args n))
+      → AnswersRule {A = List Sequent} (Err f) (at_fact d p u (sequent s goal) args n)
+  states_at ForFacts f e h = absurd cc
+  states_at ForStates f e h = h
+  states_at ForSteps f e h = absurd cc
+  states_at ForEnds f e h = absurd cc
+
+  paths_at : (p : Purpose) → is_for_paths p ≡ true → at_fact d p u (sequent s goal) args n ≡ Err 3
+  paths_at ForFacts e = absurd cc
+  paths_at ForStates e = absurd cc
+  paths_at ForSteps e = refl
+  paths_at ForEnds e = refl
+
+  facts_at : (p : Purpose) (res : Result (List Sequent) Fault) → is_for_states p ≡ false → is_for_paths p ≡ false
+      → AnswersRule res (outcome (pure_rule d u s (Some goal) args n)) → AnswersRule res (at_fact d p u (sequent s goal) args n)
+  facts_at ForFacts res a b h = h
+  facts_at ForStates res a b h = absurd cc
+  facts_at ForSteps res a b h = absurd cc
+  facts_at ForEnds res a b h = absurd cc
+
+  pub states_prove_none : (f : Fault) → is_for_states (purpose u) ≡ true → AnswersRule (Err f) (refused_goals d u s args n)
+      → AnswersRule {A = List Sequent} (Err f) (goal_table d u (sequent s goal) args n)
+  unfolding goal_table
+  states_prove_none f e h = states_at (purpose u) f e h
+
+  pub paths_prove_none : is_for_paths (purpose u) ≡ true → goal_table d u (sequent s goal) args n ≡ Err 3
+  unfolding goal_table
+  paths_prove_none e = paths_at (purpose u) e
+
+  pub facts_prove : (res : Result (List Sequent) Fault) → is_for_states (purpose u) ≡ false → is_for_paths (purpose u) ≡ false
+      → AnswersRule res (outcome (pure_rule d u s (Some goal) args n)) → AnswersRule res (goal_table d u (sequent s goal) args n)
+  unfolding goal_table
+  facts_prove res a b h = facts_at (purpose u) res a b h
+
 -- ---- a node
 
 module _ (d : Decls) where
@@ -54,6 +110,29 @@ module _ (d : Decls) where
   pub node_refused : (t : Deriv) (q : Sequent) (n p : ℕ) → goal_table d (out-Deriv t).rule q (out-Deriv t).args (length (out-Deriv t).children) ≡ Err p
       → facts t q n ≡ Err (n, p)
   node_refused t q n p e = node_is t q n ∙ ap (λ (g : Result (List Sequent) ℕ). walk_below g (map facts (out-Deriv t).children) n) e
+
+  -- the next goal of a node, with its child
+  goal_next : (f : Goals) (n : ℕ) (t : Deriv) (ts : List Deriv) (q : Sequent) → f.children.now ≡ t ∷ ts → slice_get f.goals f.at ≡ Some q
+      → goals_walk d f n ≡ and_then (facts t q n) (walk_all (map facts ts) (drop (f.at + 1) f.goals))
+  goal_next f n t ts q e g =
+      ap (λ (us : List Deriv). walk_all (map facts us) (drop f.at f.goals) n) e ∙ next_left (facts t) (map facts ts) f.goals f.at n q g
+
+  pub child_refused : (f : Goals) (n : ℕ) (t : Deriv) (ts : List Deriv) (q : Sequent) (v : Verdict) → f.children.now ≡ t ∷ ts → slice_get f.goals f.at ≡ Some q
+      → AnswersGoals d (Err v) n (facts t q n) → AnswersGoalsTurn d (Err v) f n
+  child_refused f n t ts q (Reject node premise) e g h =
+      goal_next f n t ts q e g ∙ ap (λ (w : Walked). and_then w (walk_all (map facts ts) (drop (f.at + 1) f.goals))) h
+  child_refused f n t ts q Memory e g h = tt
+
+  pub child_opened : (f below : Goals) (n : ℕ) (t : Deriv) (ts : List Deriv) (q : Sequent) → f.children.now ≡ t ∷ ts → slice_get f.goals f.at ≡ Some q
+      → facts t q n ≡ goals_walk d below (n + 1) → goals_size below < size t
+      → (goals_walk d f n ≡ and_then (goals_walk d below (n + 1)) (walk_all (map facts ts) (drop (f.at + 1) f.goals)))
+      × (1 + children_size ts + goals_size below < goals_size f)
+  child_opened f below n t ts q e g h less =
+      let sizes : children_size f.children.now ≡ children_size (t ∷ ts) = ap children_size e in
+      (
+        goal_next f n t ts q e g ∙ ap (λ (w : Walked). and_then w (walk_all (map facts ts) (drop (f.at + 1) f.goals))) h,
+        omega arith,
+      )
 
   -- ---- what is left
 

@@ -1,9 +1,14 @@
 -- The walk of trees for facts with a list of its own: for each node whose children are being checked, the goals that are left, each in
 -- its state, and the children that are left for them.
-use Rattle.std.specs.Prelude.{◌≡◌, ℕ, ◌+◌, ◌<◌, List, [], ◌∷◌, map, drop, Option, Some, None, Result, Ok, Err}
+use Rattle.std.specs.Prelude.{◌≡◌, ℕ, ◌+◌, ◌<◌, Bool, true, false, List, [], ◌∷◌, map, drop, Option, Some, None, Result, Ok, Err}
 use Rattle.bed_lang.specs.declared.condition.Decls.{Decls}
 use Rattle.bed_deriv.specs.declared.derivation.Deriv.{Deriv}
+use Rattle.bed_deriv.specs.declared.state.Sequent.{Sequent}
+use Rattle.bed_deriv.specs.Derives.{Purpose, ForFacts, ForStates, ForSteps, ForEnds, refused}
+use Rattle.bed_deriv.specs.declared.derivation.Rule.{Rule}
+use Rattle.bed_deriv.specs.declared.derivation.DArg.{DArg}
 use Rattle.bed_deriv.specs.declared.state.SymState.{SymState}
+use Rattle.bed_check_heap.specs.Steps.{state_table}
 use Rattle.bed_deriv.specs.Walk.{Walked, and_then, walk_all, walk}
 use Rattle.bed_check_pure.specs.declared.verdict.Verdict.{Verdict}
 use Rattle.bed_check_pure.specs.declared.verdict.Verdict.TheVariants.{Reject, Memory}
@@ -44,8 +49,16 @@ AnswersGoalsTurn d (Ok (Some t)) f n =
 AnswersGoalsTurn d (Err (Reject node premise)) f n = goals_walk d f n ≡ Err (node, premise)
 AnswersGoalsTurn d (Err Memory) f n = Unit {0}
 
--- the answer of a tree's walk, with the state that it was checked in
-abbrev pub AnswersGoal : Result (ℕ × SymState) Verdict → SymState → Walked → Type 0
-AnswersGoal (Ok p) s w = (w ≡ Ok p.0) × (p.1 ≡ s)
-AnswersGoal (Err (Reject node premise)) s w = w ≡ Err (node, premise)
-AnswersGoal (Err Memory) s w = Unit {0}
+-- what a rule is for
+abbrev pub is_for_states : Purpose → Bool
+is_for_states ForStates = true
+is_for_states _ = false
+
+abbrev pub is_for_paths : Purpose → Bool
+is_for_paths ForSteps = true
+is_for_paths ForEnds = true
+is_for_paths _ = false
+
+-- the refusal of a rule at a fact, by what it gives at a rest
+abbrev pub refused_goals : Decls → Rule → SymState → List DArg → ℕ → Result (List Sequent) ℕ
+refused_goals d r s args n = refused (state_table d r s args n)

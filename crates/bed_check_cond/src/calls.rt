@@ -445,8 +445,19 @@ fn call_chosen(
     }
 }
 
+// The arguments behind the first ones.
+fn args_behind(args: &[DArg], n: usize) -> &[DArg]
+    ensures { result.now ≡ drop n args.now }
+{
+    if n <= args.len() {
+        &args[n..]
+    } else {
+        &[]
+    }
+}
+
 // A call of a signature, its counts being right.
-#[tactic(auto, using(crate::proofs::CallLemmas::valued, crate::proofs::CallLemmas::unvalued))]
+#[tactic(auto, using(crate::proofs::CallLemmas::unvalued))]
 fn call_from(
     alloc: Global,
     at: &Point,
@@ -458,7 +469,7 @@ fn call_from(
     ensures { AnswersStep (called site.now.after.now) result (first_failure (call_from (rest_of at.now) s.now site.now.target.now site.now.via.now site.now.operands.now site.now.into.now site.now.after.now args.now)) }
 {
     let (vs, bs) = call_values(alloc, &at.state, s, args)?;
-    let atoms = &args[s.logical.len() + s.pre.binders.len()..];
+    let atoms = args_behind(args, s.logical.len() + s.pre.binders.len());
     call_chosen(alloc, at, site, s, &vs, &bs, atoms)
 }
 

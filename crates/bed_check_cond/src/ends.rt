@@ -207,7 +207,7 @@ fn end_values(
 }
 
 // The end of a path at an assertion.
-#[tactic(auto, using(crate::proofs::EndLemmas::end_valued, crate::proofs::EndLemmas::end_unvalued))]
+#[tactic(auto, using(crate::proofs::EndLemmas::end_unvalued))]
 fn meets(
     alloc: Global,
     at: &Point,
@@ -222,7 +222,7 @@ fn meets(
 }
 
 // The end of a path at a return.
-#[tactic(auto, using(crate::proofs::EndLemmas::end_valued, crate::proofs::EndLemmas::end_unvalued))]
+#[tactic(auto, using(crate::proofs::EndLemmas::end_unvalued))]
 fn returns(
     alloc: Global,
     at: &Point,

@@ -1,15 +1,17 @@
 //! The walk of trees for facts, with a list of its own in place of recursion.
-ghost use Rattle.std.specs.Prelude.{◌≡◌, ◌++◌, ◌<◌, IfOk, OnOk};
+ghost use Rattle.std.specs.Prelude.{◌≡◌, ◌++◌, ◌<◌, Err, IfOk, OnOk};
 ghost use Rattle.bed_deriv.specs.Checks.{sequent};
 ghost use Rattle.bed_deriv.specs.Nodes.{children_walked};
 ghost use Rattle.bed_deriv.specs.Walk.{walk};
 ghost use Rattle.bed_check_pure.specs.Answers.{goal_table};
-ghost use Rattle.bed_check_pure.specs.Faults.{AnswersWalk};
-ghost use Rattle.bed_check_cond.specs.Facts.{goals_walk, goals_waiting, goals_size, AnswersGoals, AnswersGoal, AnswersGoalsTurn};
+ghost use Rattle.bed_check_pure.specs.Faults.{AnswersRule, AnswersWalk};
+ghost use Rattle.bed_deriv.specs.Derives.{purpose};
+ghost use Rattle.bed_check_cond.specs.Facts.{goals_walk, goals_waiting, goals_size, is_for_states, is_for_paths, refused_goals, AnswersGoals, AnswersGoalsTurn};
 ghost use Rattle.bed_check_cond.specs.Stack.{size};
 
-use bed_check_pure::{Fault, Verdict, goal_rule};
-use bed_deriv::{Deriv, Sequent, SymState};
+use bed_check_heap::state_rule;
+use bed_check_pure::{Fault, Verdict, fact_rule};
+use bed_deriv::{DArg, Deriv, Rule, Sequent, SymState};
 use bed_lang::{Decls, List, Pure};
 use std::alloc::{AllocError, Global};
 
@@ -30,19 +32,89 @@ pub(crate) struct Descent<'a> {
     pub(crate) below: Goals<'a>,
 }
 
+// Whether the rule changes a state.
+fn is_for_states(rule: Rule) -> bool
+    ensures { result ≡ is_for_states (purpose rule) }
+{
+    match rule {
+        Rule::Claim => true,
+        Rule::When => true,
+        Rule::Never => true,
+        Rule::Unfold => true,
+        Rule::Fold => true,
+        Rule::Append => true,
+        Rule::Divide => true,
+        Rule::Merge => true,
+        Rule::Shape => true,
+        _ => false,
+    }
+}
+
+// Whether the rule goes along a path.
+fn is_for_paths(rule: Rule) -> bool
+    ensures { result ≡ is_for_paths (purpose rule) }
+{
+    match rule {
+        Rule::Step => true,
+        Rule::Finish => true,
+        _ => false,
+    }
+}
+
+// The refusal of a rule that changes a state, which proves no fact.
+fn refused(
+    alloc: Global,
+    decls: &Decls,
+    rule: Rule,
+    s: &SymState,
+    args: &[DArg],
+    n: usize,
+) -> Fault
+    ensures { AnswersRule (Err result) (refused_goals decls.now rule s.now args.now n) }
+{
+    match state_rule(alloc, decls, rule, s, args, n) {
+        Ok(_) => Fault::Condition,
+        Err(fault) => fault,
+    }
+}
+
+// What a node of any rule leaves to prove of a goal in a state.
+#[tactic(auto, using(crate::proofs::FactsLemmas::states_prove_none, crate::proofs::FactsLemmas::paths_prove_none, crate::proofs::FactsLemmas::facts_prove))]
+fn goals_of(
+    alloc: Global,
+    decls: &Decls,
+    rule: Rule,
+    s: &SymState,
+    goal: &Pure,
+    args: &[DArg],
+    n: usize,
+) -> Result<List<Sequent>, Fault>
+    ensures { AnswersRule result (goal_table decls.now rule (sequent s.now goal.now) args.now n) }
+{
+    if is_for_states(rule) {
+        return Err(refused(alloc, decls, rule, s, args, n));
+    }
+    if is_for_paths(rule) {
+        return Err(Fault::Condition);
+    }
+    fact_rule(alloc, decls, rule, s, Some(goal), args, n)
+}
+
 // Checks a node of this number.
 #[tactic(auto, using(crate::proofs::FactsLemmas::node_left, crate::proofs::FactsLemmas::node_refused, crate::proofs::FactsLemmas::smaller_node))]
 fn opened<'a>(
     alloc: Global,
     decls: &Decls,
-    q: &Sequent,
+    s: &SymState,
+    goal: &Pure,
     d: &'a Deriv,
     node: u32,
 ) -> Result<Goals<'a>, Verdict>
-    ensures walk { AnswersGoals decls.now result node (walk (goal_table decls.now) d.now q.now node) }
+    ensures walk { AnswersGoals decls.now result node (walk (goal_table decls.now) d.now (sequent s.now goal.now) node) }
     ensures smaller { IfOk result (λ f. goals_size f < size d.now) }
 {
-    match goal_rule(alloc, decls, d.rule, q, d.args.as_slice(), d.children.len()) {
+    let n = d.children.len();
+    match goals_of(alloc, decls, d.rule, s, goal, d.args.as_slice(), n) {
         Err(Fault::Count) => Err(Verdict::Reject { node, premise: 1 }),
         Err(Fault::Argument) => Err(Verdict::Reject { node, premise: 2 }),
         Err(Fault::Condition) => Err(Verdict::Reject { node, premise: 3 }),
@@ -56,7 +128,7 @@ fn opened<'a>(
 }
 
 // The next turn at a node: None where nothing is left of it; else its next child is opened.
-#[tactic(auto, using(crate::proofs::FactsLemmas::none_left, crate::proofs::FactsLemmas::next_left))]
+#[tactic(auto, using(crate::proofs::FactsLemmas::none_left))]
 fn turn<'a>(
     alloc: Global,
     decls: &Decls,
@@ -74,7 +146,7 @@ fn turn<'a>(
         [] => Ok(None),
         [child, more @ ..] => match goals.get(at) {
             None => Ok(None),
-            Some(q) => match opened(alloc, decls, q, child, node) {
+            Some(q) => match opened(alloc, decls, &q.state, &q.goal, child, node) {
                 Err(verdict) => Err(verdict),
                 Ok(below) => Ok(Some(Descent {
                     left: Goals {
@@ -139,22 +211,18 @@ fn walk_left<'a>(
     }
 }
 
-/// Checks a derivation of a goal in a state, its root having this number, and gives the number after its
-/// last node.
-///
-/// # Errors
-/// `Reject` exactly where some node is no instance of its rule: the first in preorder, with its first failing
-/// premise. `Memory` for want of memory, and where there are more than 4294967295 nodes.
-pub(crate) fn sequent_walked<'a>(
+// Checks a tree for a goal in a state, its root having this number, and gives the number after its last node.
+fn goal_walked(
     alloc: Global,
     decls: &Decls,
-    q: &Sequent,
-    d: &'a Deriv,
+    s: &SymState,
+    goal: &Pure,
+    d: &Deriv,
     node: u32,
 ) -> Result<u32, Verdict>
-    ensures { AnswersWalk result (walk (goal_table decls.now) d.now q.now node) }
+    ensures { AnswersWalk result (walk (goal_table decls.now) d.now (sequent s.now goal.now) node) }
 {
-    match opened(alloc, decls, q, d, node) {
+    match opened(alloc, decls, s, goal, d, node) {
         Err(verdict) => Err(verdict),
         Ok(root) => {
             if node == u32::MAX {
@@ -165,67 +233,8 @@ pub(crate) fn sequent_walked<'a>(
     }
 }
 
-// The state with a goal.
-fn with_goal(alloc: Global, state: SymState, goal: &Pure) -> Result<Sequent, AllocError>
-    ensures { IfOk result (λ r. r ≡ sequent state goal.now) }
-{
-    let goal = goal.copy(alloc)?;
-    Ok(Sequent { state, goal })
-}
-
-// Checks a tree for a goal in a state; the state comes back, for the next goal.
-fn goal_walked<'a>(
-    alloc: Global,
-    decls: &Decls,
-    state: SymState,
-    goal: &Pure,
-    d: &'a Deriv,
-    node: u32,
-) -> Result<(u32, SymState), Verdict>
-    ensures { AnswersGoal result state (walk (goal_table decls.now) d.now (sequent state goal.now) node) }
-{
-    match with_goal(alloc, state, goal) {
-        Err(_) => Err(Verdict::Memory),
-        Ok(q) => match sequent_walked(alloc, decls, &q, d, node) {
-            Err(verdict) => Err(verdict),
-            Ok(last) => {
-                let Sequent { state, .. } = q;
-                Ok((last, state))
-            }
-        },
-    }
-}
-
-// Checks that the first children prove these goals in a state, in order.
-fn goals_in_turn(
-    alloc: Global,
-    decls: &Decls,
-    start: SymState,
-    children: &[Deriv],
-    goals: &[Pure],
-    node: u32,
-) -> Result<u32, Verdict>
-    ensures { AnswersWalk result (children_walked (goal_table decls.now) start.entry children.now goals.now node) }
-{
-    let mut state = start;
-    let mut at = node;
-    let mut rest = goals;
-    for child in children {
-        match rest {
-            [] => return Ok(at),
-            [goal, more @ ..] => {
-                let (last, same) = goal_walked(alloc, decls, state, goal, child, at)?;
-                state = same;
-                at = last;
-                rest = more;
-            }
-        }
-    }
-    Ok(at)
-}
-
 /// Checks that the first children prove these goals in this state, in order, and gives the number after
-/// their last node; the first child has number `node`. It makes one copy of the state.
+/// their last node; the first child has number `node`.
 ///
 /// # Errors
 /// `Reject` exactly where one of them is refused: the first node in preorder that is no instance of its
@@ -241,11 +250,16 @@ pub(crate) fn children_walked(
 ) -> Result<u32, Verdict>
     ensures { AnswersWalk result (children_walked (goal_table decls.now) s.now children.now goals.now node) }
 {
-    if goals.is_empty() {
-        return Ok(node);
+    let mut at = node;
+    let mut rest = goals;
+    for child in children {
+        match rest {
+            [] => return Ok(at),
+            [goal, more @ ..] => {
+                at = goal_walked(alloc, decls, s, goal, child, at)?;
+                rest = more;
+            }
+        }
     }
-    match s.copy(alloc) {
-        Err(_) => Err(Verdict::Memory),
-        Ok(state) => goals_in_turn(alloc, decls, state, children, goals, node),
-    }
+    Ok(at)
 }
