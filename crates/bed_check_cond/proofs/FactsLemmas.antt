@@ -128,8 +128,7 @@ module _ (d : Decls) where
       → (goals_walk d f n ≡ and_then (goals_walk d below (n + 1)) (walk_all (map facts ts) (drop (f.at + 1) f.goals)))
       × (1 + children_size ts + goals_size below < goals_size f)
   child_opened f below n t ts q e g h less =
-      let sizes : children_size f.children.now ≡ children_size (t ∷ ts) = ap children_size e in
-      (
+      let sizes : children_size f.children.now ≡ children_size (t ∷ ts) = ap children_size e in (
         goal_next f n t ts q e g ∙ ap (λ (w : Walked). and_then w (walk_all (map facts ts) (drop (f.at + 1) f.goals))) h,
         omega arith,
       )
@@ -145,7 +144,7 @@ module _ (d : Decls) where
       by [] e =
           ap (λ gs. left_walk (goals_walk d) gs w) (append-nil fs)
           ∙ ap (left_walk (goals_walk d) fs) (sym (
-            then_same w (goals_walk d f) (λ n. Ok n) (λ n. ap (λ ts. walk_all (map facts ts) (drop f.at f.goals) n) (sym e)) ∙ then_end w
+          then_same w (goals_walk d f) (λ n. Ok n) (λ n. ap (λ ts. walk_all (map facts ts) (drop f.at f.goals) n) (sym e)) ∙ then_end w
           ))
       by (t ∷ ts) e = left_last (goals_walk d) fs f w
 

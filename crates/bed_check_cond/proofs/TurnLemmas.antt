@@ -42,8 +42,8 @@ module _ (d : Decls) (function : Name) where
       by [] e =
           ap (λ gs. left_walk (rests_walk d function) gs w) (append-nil fs)
           ∙ ap (left_walk (rests_walk d function) fs) (sym (
-            then_same w (rests_walk d function f) (λ n. Ok n) (λ n. ap (λ ts. walk_all (map (walk (rules d function)) ts) (map Closes (rests_at f.ahead f.states)) n) (sym e))
-            ∙ then_end w
+          then_same w (rests_walk d function f) (λ n. Ok n) (λ n. ap (λ ts. walk_all (map (walk (rules d function)) ts) (map Closes (rests_at f.ahead f.states)) n) (sym e))
+          ∙ then_end w
           ))
       by (t ∷ ts) e = left_last (rests_walk d function) fs f w
 
@@ -82,10 +82,10 @@ module _ (d : Decls) (function : Name) where
   opened_walk t r n k o args ts res a b c e h =
       let u = (out-Deriv t).rule in
       let given : onward_at d function u r (out-Deriv t).args (length (out-Deriv t).children) ≡ Ok o =
-              ap (λ (xs : List DArg). onward_at d function u r xs (length (out-Deriv t).children)) (sym a) ∙ ap (λ (m : ℕ). onward_at d function u r args m) (sym b) ∙ e in
+      ap (λ (xs : List DArg). onward_at d function u r xs (length (out-Deriv t).children)) (sym a) ∙ ap (λ (m : ℕ). onward_at d function u r args m) (sym b) ∙ e in
       subst (AnswersOpened d function res) (
-        ap (λ (us : List Deriv). walk_all (map (walk (rules d function)) us) (facts_to_prove r.state o.goals ++ map Closes o.rests) (n + 1)) c
-        ∙ sym (node_left d function t r n o given)
+      ap (λ (us : List Deriv). walk_all (map (walk (rules d function)) us) (facts_to_prove r.state o.goals ++ map Closes o.rests) (n + 1)) c
+      ∙ sym (node_left d function t r n o given)
       ) h
 
 -- ---- how much is left

@@ -139,7 +139,11 @@ fn compute(
 }
 
 // That the address of an atom is this place.
-pub(crate) fn address_goal(alloc: Global, address: &Word, place: Word) -> Result<List<Pure>, AllocError>
+pub(crate) fn address_goal(
+    alloc: Global,
+    address: &Word,
+    place: Word,
+) -> Result<List<Pure>, AllocError>
     ensures { IfOk result (λ r. r ≡ Pure.Equal address.now place ∷ []) }
 {
     let address = address.copy(alloc)?;
@@ -373,13 +377,7 @@ fn only_state(alloc: Global, state: SymState) -> Moved
     }
 }
 
-fn assumed(
-    alloc: Global,
-    at: &Point,
-    rel: Rel,
-    a: Word,
-    right: &Operand,
-) -> Result<Moved, Fault>
+fn assumed(alloc: Global, at: &Point, rel: Rel, a: Word, right: &Operand) -> Result<Moved, Fault>
     ensures { AnswersStep (moved (rest_of at.now)) result (first_failure (assumed (rest_of at.now) rel a right.now)) }
 {
     match operand_term(alloc, at.state.locals.as_slice(), right) {
@@ -392,13 +390,7 @@ fn assumed(
     }
 }
 
-fn assume(
-    alloc: Global,
-    at: &Point,
-    test: &Test,
-    args: &[DArg],
-    n: usize,
-) -> Result<Moved, Fault>
+fn assume(alloc: Global, at: &Point, test: &Test, args: &[DArg], n: usize) -> Result<Moved, Fault>
     ensures { AnswersStep (moved (rest_of at.now)) result (first_failure (assume (rest_of at.now) test.now args.now n)) }
 {
     if args.len() != 0 || n != 1 {

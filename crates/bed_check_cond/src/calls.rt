@@ -248,7 +248,12 @@ fn state_after(
     requires { state.now.next + 1 + length s.now.post.binders < 4294967296 }
     ensures { IfOk result (λ r. r ≡ state_after state.now s.now ws.now vs.now cs.now into.now) }
 {
-    match set_local(alloc, state.locals.as_slice(), into, &fresh_word(state.next))? {
+    match set_local(
+        alloc,
+        state.locals.as_slice(),
+        into,
+        &fresh_word(state.next),
+    )? {
         None => Ok(None),
         Some(locals) => Ok(Some(opened_after(alloc, state, s, ws, vs, cs, locals)?)),
     }
@@ -449,11 +454,7 @@ fn call_chosen(
 fn args_behind(args: &[DArg], n: usize) -> &[DArg]
     ensures { result.now ≡ drop n args.now }
 {
-    if n <= args.len() {
-        &args[n..]
-    } else {
-        &[]
-    }
+    if n <= args.len() { &args[n..] } else { &[] }
 }
 
 // A call of a signature, its counts being right.

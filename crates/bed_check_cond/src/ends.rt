@@ -19,7 +19,9 @@ use bed_deriv::choice::{all_different, atoms_left, chosen};
 use bed_deriv::matching::{count_of_atoms, match_goals};
 use bed_deriv::read::read_terms;
 use bed_deriv::{DArg, Reading, SymState};
-use bed_lang::{Arg, Assertion, Atom, Decls, Goal, List, Name, Operand, Pure, Signature, Term, Tree, Word};
+use bed_lang::{
+    Arg, Assertion, Atom, Decls, Goal, List, Name, Operand, Pure, Signature, Term, Tree, Word,
+};
 use std::alloc::{AllocError, Global};
 
 // Whether no atom is left.

@@ -62,14 +62,7 @@ fn is_for_paths(rule: Rule) -> bool
 }
 
 // The refusal of a rule that changes a state, which proves no fact.
-fn refused(
-    alloc: Global,
-    decls: &Decls,
-    rule: Rule,
-    s: &SymState,
-    args: &[DArg],
-    n: usize,
-) -> Fault
+fn refused(alloc: Global, decls: &Decls, rule: Rule, s: &SymState, args: &[DArg], n: usize) -> Fault
     ensures { AnswersRule (Err result) (refused_goals decls.now rule s.now args.now n) }
 {
     match state_rule(alloc, decls, rule, s, args, n) {
@@ -182,12 +175,7 @@ fn wait_both<'a>(nodes: &mut List<Goals<'a>>, turned: Descent<'a>) -> Result<(),
 
 // Checks all that is left below a node, and gives the number after its last one.
 #[tactic(auto, using(crate::proofs::FactsLemmas::spent, crate::proofs::FactsLemmas::refused))]
-fn walk_left<'a>(
-    alloc: Global,
-    decls: &Decls,
-    root: Goals<'a>,
-    first: u32,
-) -> Result<u32, Verdict>
+fn walk_left<'a>(alloc: Global, decls: &Decls, root: Goals<'a>, first: u32) -> Result<u32, Verdict>
     ensures { AnswersWalk result (goals_walk decls.now root.entry first) }
 {
     let mut node = first;

@@ -5,8 +5,8 @@
 mod actions;
 mod bytes;
 mod calls;
-mod check;
 mod compute;
+mod condition;
 mod ends;
 mod facts;
 pub mod laws;
@@ -17,4 +17,4 @@ mod rests;
 mod values;
 
 pub use bed_check_pure::Verdict;
-pub use check::check;
+pub use condition::check;

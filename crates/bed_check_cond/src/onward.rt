@@ -98,13 +98,15 @@ fn step<'a>(
     match at.ahead.actions {
         [action, more @ ..] => step_action(alloc, at, action, more, args, n),
         [] => match at.ahead.aim {
-            Aim::Whole(Goal::Calls {
-                target,
-                via,
-                args: operands,
-                into,
-                after,
-            }) => {
+            Aim::Whole(
+                Goal::Calls {
+                    target,
+                    via,
+                    args: operands,
+                    into,
+                    after,
+                },
+            ) => {
                 let made = CallSite {
                     target,
                     via,

@@ -20,7 +20,7 @@ returns-in-Ok-Some c =
     subst (λ (r : Result Onward ℕ). AnswersStep (called site.after.now) c.call_worded.result r)
     (sym (worded (rest_of c.args.at.now) c.args.s.now site.target.now site.via.now site.operands.now site.into.now site.after.now c.args.vs.now c.args.bs.now c.args.cs.now c.in-Ok-Some.ws found))
     (
-      subst (λ (us : List Word). AnswersStep (called site.after.now) c.call_worded.result
-          (first_failure (call_worded (rest_of c.args.at.now) c.args.s.now site.target.now site.via.now site.into.now site.after.now c.args.vs.now c.args.bs.now c.args.cs.now us)))
-      c.as_slice-in-Ok-Some.ensures c.call_worded.ensures
+    subst (λ (us : List Word). AnswersStep (called site.after.now) c.call_worded.result
+    (first_failure (call_worded (rest_of c.args.at.now) c.args.s.now site.target.now site.via.now site.into.now site.after.now c.args.vs.now c.args.bs.now c.args.cs.now us)))
+    c.as_slice-in-Ok-Some.ensures c.call_worded.ensures
     )

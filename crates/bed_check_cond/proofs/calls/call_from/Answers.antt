@@ -16,7 +16,7 @@ returns c =
     subst (λ (r : Result Onward ℕ). AnswersStep (called site.after.now) c.call_chosen.result r)
     (sym (valued (rest_of c.args.at.now) c.args.s.now site.target.now site.via.now site.operands.now site.into.now site.after.now c.args.args.now c.in_ok-vs.vs c.in_ok-vs.bs c.in_ok-vs.ensures))
     (
-      subst (λ (xs : List DArg). AnswersStep (called site.after.now) c.call_chosen.result
-          (first_failure (call_chosen (rest_of c.args.at.now) c.args.s.now site.target.now site.via.now site.operands.now site.into.now site.after.now c.in_ok-vs.vs c.in_ok-vs.bs xs)))
-      (c.args_behind-atoms.ensures ∙ ap (λ (k : ℕ). drop k c.args.args.now) count) c.call_chosen.ensures
+    subst (λ (xs : List DArg). AnswersStep (called site.after.now) c.call_chosen.result
+    (first_failure (call_chosen (rest_of c.args.at.now) c.args.s.now site.target.now site.via.now site.operands.now site.into.now site.after.now c.in_ok-vs.vs c.in_ok-vs.bs xs)))
+    (c.args_behind-atoms.ensures ∙ ap (λ (k : ℕ). drop k c.args.args.now) count) c.call_chosen.ensures
     )

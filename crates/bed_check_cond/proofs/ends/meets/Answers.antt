@@ -13,6 +13,6 @@ returns c =
     subst (λ (r : Result Onward ℕ). AnswersStep ended c.met_found.result r)
     (sym (end_valued (rest_of c.args.at.now) c.args.args.now c.args.n (met c.args.at.now.state c.args.assertion.now) c.in_ok-bs.bs c.in_ok-bs.cs c.in_ok-bs.ensures))
     (
-      subst (λ (xs : List (ℕ × Atom)). AnswersStep ended c.met_found.result (first_failure (end_found (rest_of c.args.at.now) (met c.args.at.now.state c.args.assertion.now) c.in_ok-bs.bs xs)))
-      c.as_slice.ensures c.met_found.ensures
+    subst (λ (xs : List (ℕ × Atom)). AnswersStep ended c.met_found.result (first_failure (end_found (rest_of c.args.at.now) (met c.args.at.now.state c.args.assertion.now) c.in_ok-bs.bs xs)))
+    c.as_slice.ensures c.met_found.ensures
     )

@@ -12,6 +12,6 @@ returns c =
     subst (λ (r : Result Onward ℕ). AnswersStep ended c.returned_found.result r)
     (sym (end_valued (rest_of c.args.at.now) c.args.args.now c.args.n (returned_end c.args.at.now.state c.args.s.now c.args.a.now) c.in_ok-bs.bs c.in_ok-bs.cs c.in_ok-bs.ensures))
     (
-      subst (λ (xs : List (ℕ × Atom)). AnswersStep ended c.returned_found.result (first_failure (end_found (rest_of c.args.at.now) (returned_end c.args.at.now.state c.args.s.now c.args.a.now) c.in_ok-bs.bs xs)))
-      c.as_slice.ensures c.returned_found.ensures
+    subst (λ (xs : List (ℕ × Atom)). AnswersStep ended c.returned_found.result (first_failure (end_found (rest_of c.args.at.now) (returned_end c.args.at.now.state c.args.s.now c.args.a.now) c.in_ok-bs.bs xs)))
+    c.as_slice.ensures c.returned_found.ensures
     )

@@ -1,5 +1,5 @@
 use Rattle.bed_check_cond.proofs.AcceptedLaws.{accepted_valid}
-use Rattle.bed_check_cond.proofs.check.check.Goals as goal
+use Rattle.bed_check_cond.proofs.condition.check.Goals as goal
 
 pub returns-clause-sound : goal.returns-clause-sound
 returns-clause-sound c =

@@ -12,12 +12,7 @@ use bed_deriv::{Deriv, start};
 use bed_lang::{Cond, Decls};
 use std::alloc::Global;
 
-fn checked_tree<'a>(
-    alloc: Global,
-    decls: &Decls,
-    c: &'a Cond,
-    d: &'a Deriv,
-) -> Result<(), Verdict>
+fn checked_tree<'a>(alloc: Global, decls: &Decls, c: &'a Cond, d: &'a Deriv) -> Result<(), Verdict>
     requires sizes { condition_size c.now < 4294967295 }
     requires condition { IsTrue (unfresh_condition c.now) }
     requires declarations { AreUnfresh decls.now }
@@ -42,12 +37,7 @@ fn checked_tree<'a>(
 /// # Errors
 /// `Reject` exactly where some node is no instance of its rule: the first in preorder from 1, with its first
 /// failing premise. `Memory` for want of memory, and where the tree has 4294967295 nodes or more.
-pub fn check<'a>(
-    alloc: Global,
-    decls: &Decls,
-    c: &'a Cond,
-    d: &'a Deriv,
-) -> Result<(), Verdict>
+pub fn check<'a>(alloc: Global, decls: &Decls, c: &'a Cond, d: &'a Deriv) -> Result<(), Verdict>
     requires sizes { condition_size c.now < 4294967295 }
     requires condition { IsTrue (unfresh_condition c.now) }
     requires declarations { AreUnfresh decls.now }
