@@ -1,5 +1,5 @@
 -- What follows the premises of a call.
-use Rattle.std.proofs.Common.{◌≡◌, ℕ, ◌+◌, ◌<◌, ◌&&◌, Bool, true, false, nat_lt, List, [], ◌∷◌, ◌++◌, length, take, drop, Option, Some, None, Result, Ok, Err, refl, ap, sym, ◌∙◌}
+use Rattle.std.proofs.Common.{◌≡◌, ℕ, ◌+◌, false, nat_lt, List, [], length, take, drop, Option, Some, None, Ok, Err, refl, ap}
 use Rattle.bed_lang.specs.declared.word.Name.{Name}
 use Rattle.bed_lang.specs.declared.word.Word.{Word}
 use Rattle.bed_lang.specs.declared.logic.Arg.{Arg}
@@ -17,7 +17,6 @@ use Rattle.bed_deriv.specs.Arguments.{to_values}
 use Rattle.bed_deriv.specs.HeapRules.{fresh_word}
 use Rattle.bed_deriv.specs.Checks.{Check, Given, Fails, Leaves, first_failure, with_room}
 use Rattle.bed_deriv.specs.Steps.{goes_on, onward_states, operand_terms, set_local, after_call}
-use Rattle.bed_check_cond.specs.declared.point.Moved.{Moved}
 use Rattle.bed_check_cond.specs.Points.{called}
 use Rattle.bed_check_cond.specs.Parts.{opened_after, opened_if, state_after, call_values, call_chosen, call_from, call_found, call_worded}
 use Rattle.bed_check_cond.proofs.RoomLemmas.{full_refused}

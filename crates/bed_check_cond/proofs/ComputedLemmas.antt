@@ -1,5 +1,5 @@
 -- Operations bit by bit.
-use Rattle.std.proofs.Common.{◌≡◌, ℕ, ◌&&◌, Bool, true, false, if◌then◌else◌, Option, Some, None, bit_and, bit_or, bit_xor, refl, ap}
+use Rattle.std.proofs.Common.{◌≡◌, ℕ, ◌&&◌, Bool, true, false, if◌then◌else◌, Some, None, bit_and, bit_or, bit_xor, refl, ap}
 use Rattle.bed_lang.specs.declared.word.Word.{Word, Number}
 use Rattle.bed_lang.specs.declared.module.Op.{Op}
 use Rattle.bed_lang.specs.declared.module.Op.TheVariants as op

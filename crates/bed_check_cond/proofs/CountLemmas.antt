@@ -1,5 +1,5 @@
 -- Counts of arguments, of children and of fresh variables.
-use Rattle.std.proofs.Common.{◌≡◌, ℕ, ◌+◌, ◌-◌, ◌<◌, ◌≤◌, ◌==◌, Bool, true, false, not, nat_le, nat_lt, refl, sym, ◌∙◌, arith}
+use Rattle.std.proofs.Common.{◌≡◌, ℕ, ◌+◌, ◌-◌, ◌<◌, ◌≤◌, ◌==◌, true, false, not, nat_le, nat_lt, arith}
 
 pub sum_is : (n a b c : ℕ) → a ≤ n → b ≤ n - a → (c == n - a - b) ≡ (n == a + b + c)
 sum_is n a b c h k = grind arith

@@ -1,5 +1,5 @@
 -- What follows the premises of an end.
-use Rattle.std.proofs.Common.{◌≡◌, ℕ, ◌+◌, ◌&&◌, ◌==◌, Bool, true, false, List, [], ◌∷◌, length, take, drop, Option, Some, None, Result, Ok, Err, refl, ap, sym, ◌∙◌}
+use Rattle.std.proofs.Common.{◌≡◌, ℕ, ◌+◌, ◌&&◌, ◌==◌, Bool, true, false, List, length, take, drop, Option, Some, None, Ok, Err, ap, ◌∙◌}
 use Rattle.bed_lang.specs.declared.word.Name.{Name}
 use Rattle.bed_lang.specs.declared.logic.Arg.{Arg}
 use Rattle.bed_lang.specs.declared.logic.Atom.{Atom}
@@ -7,7 +7,7 @@ use Rattle.bed_deriv.specs.declared.derivation.DArg.{DArg}
 use Rattle.bed_deriv.specs.declared.rest.Rest.{Rest}
 use Rattle.bed_deriv.specs.Arguments.{to_values}
 use Rattle.bed_deriv.specs.Matches.{count_of_goals, count_of_atoms, chosen}
-use Rattle.bed_deriv.specs.Checks.{Check, Needs, Given, Fails, Leaves, first_failure}
+use Rattle.bed_deriv.specs.Checks.{Needs, Given, Fails, Leaves, first_failure}
 use Rattle.bed_lang.specs.declared.word.Word.{Word}
 use Rattle.bed_lang.specs.declared.module.Operand.{Operand}
 use Rattle.bed_lang.specs.declared.module.Signature.{Signature}

@@ -19,7 +19,6 @@ use Rattle.bed_deriv.specs.Walk.{Walk, Walked, and_then, walk_all, walk_below, w
 use Rattle.bed_deriv.specs.Nodes.{children_walked}
 use Rattle.bed_deriv.specs.Derives.{Purpose, ForFacts, ForStates, ForSteps, ForEnds, purpose, proofs, refused, facts_to_prove, from_states, states_to_close, rests_to_close, by_purpose, rules, pure_rule, heap_rule}
 use Rattle.bed_check_pure.specs.Answers.{at_fact, goal_table}
-use Rattle.bed_check_heap.specs.Steps.{at_state}
 use Rattle.bed_check_cond.specs.Answered.{from_each, changed, onward_by, onward_at}
 
 pub then_same : (w : Walked) (f g : ℕ → Walked) → ((m : ℕ) → f m ≡ g m) → and_then w f ≡ and_then w g

@@ -1,13 +1,12 @@
 -- Steps whose fresh variable has no number left: the state that they make has no room.
-use Rattle.std.proofs.Common.{◌≡◌, ℕ, ◌+◌, ◌<◌, ◌≤◌, ◌&&◌, Bool, true, false, nat_lt, List, [], ◌∷◌, drop, length, Option, Some, None, Result, Ok, Err, refl, ap, arith}
+use Rattle.std.proofs.Common.{◌≡◌, ℕ, ◌+◌, ◌&&◌, Bool, true, false, nat_lt, List, [], ◌∷◌, drop, length, Option, Some, None, Ok, Err, refl, ap, arith}
 use Rattle.bed_lang.specs.declared.word.Name.{Name}
 use Rattle.bed_lang.specs.declared.word.Word.{Word}
 use Rattle.bed_lang.specs.declared.logic.Pure.{Pure}
 use Rattle.bed_deriv.specs.declared.rest.Rest.{Rest}
 use Rattle.bed_deriv.specs.declared.rest.Onward.{Onward}
-use Rattle.bed_deriv.specs.declared.state.SymState.{SymState}
 use Rattle.bed_deriv.specs.HeapRules.{fresh_word, with_next}
-use Rattle.bed_deriv.specs.Checks.{Check, Given, first_failure, when, with_room}
+use Rattle.bed_deriv.specs.Checks.{Given, first_failure, when, with_room}
 use Rattle.bed_deriv.specs.Steps.{goes_on, onward_states, onward, set_local, with_result}
 use Rattle.bed_check_cond.specs.Parts.{fresh_byte}
 

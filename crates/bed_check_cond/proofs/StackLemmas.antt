@@ -1,5 +1,5 @@
 -- The walk with a list of its own: what is left of it, put together, is the walk.
-use Rattle.std.proofs.Common.{◌≡◌, ℕ, List, [], ◌∷◌, ◌++◌, Result, Ok, Err, refl, ap, sym, ◌∙◌}
+use Rattle.std.proofs.Common.{◌≡◌, ℕ, List, [], ◌∷◌, ◌++◌, Ok, Err, refl, ap, sym, ◌∙◌}
 use Rattle.bed_deriv.specs.Walk.{Walked, and_then}
 use Rattle.bed_check_cond.specs.Stack.{left_walk}
 

@@ -1,5 +1,5 @@
 -- The rest of a step behind its first premises, given what these found.
-use Rattle.std.specs.Prelude.{◌≡◌, ℕ, ◌+◌, ◌&&◌, ◌==◌, if◌then◌else◌, Bool, true, false, List, [], ◌∷◌, ◌++◌, length, map, take, drop, Option, Some, None, bit_and, bit_or, bit_xor}
+use Rattle.std.specs.Prelude.{ℕ, ◌+◌, ◌&&◌, ◌==◌, if◌then◌else◌, Bool, List, [], ◌∷◌, ◌++◌, length, map, take, drop, Option, Some, None, bit_and, bit_or, bit_xor}
 use Rattle.bed_lang.specs.declared.word.Name.{Name}
 use Rattle.bed_lang.specs.declared.word.Word.{Word, Number}
 use Rattle.bed_lang.specs.declared.logic.Arg.{Arg}
@@ -22,7 +22,7 @@ use Rattle.bed_deriv.specs.declared.derivation.DArg.{DArg}
 use Rattle.bed_deriv.specs.declared.state.SymState.{SymState}
 use Rattle.bed_deriv.specs.declared.rest.Rest.{Rest}
 use Rattle.bed_deriv.specs.Arguments.{to_values, number_at, numbered}
-use Rattle.bed_deriv.specs.HeapRules.{cell_of, byte_of, fresh_word, with_next}
+use Rattle.bed_deriv.specs.HeapRules.{byte_of, fresh_word, with_next}
 use Rattle.bed_deriv.specs.Opening.{replacing, with_answer, local_values, opened}
 use Rattle.bed_deriv.specs.Matches.{count_of_goals, count_of_atoms, chosen, all_different, atoms_left, match_goals}
 use Rattle.bed_deriv.specs.Checks.{Check, Needs, Given, Leaves, with_fact}

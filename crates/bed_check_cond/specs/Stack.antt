@@ -4,7 +4,6 @@ use Rattle.std.specs.Prelude.{◌≡◌, ℕ, ◌+◌, ◌<◌, List, [], ◌∷
 use Rattle.bed_lang.specs.declared.word.Name.{Name}
 use Rattle.bed_lang.specs.declared.condition.Decls.{Decls}
 use Rattle.bed_deriv.specs.declared.derivation.Deriv.{Deriv, Deriv-F, fold-Deriv}
-use Rattle.bed_deriv.specs.declared.rest.Task.{Task}
 use Rattle.bed_deriv.specs.declared.rest.Task.TheVariants.{Closes}
 use Rattle.bed_deriv.specs.Walk.{Walked, and_then, walk_all, walk}
 use Rattle.bed_check_pure.specs.declared.verdict.Verdict.{Verdict}

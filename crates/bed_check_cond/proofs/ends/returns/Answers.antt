@@ -1,4 +1,4 @@
-use Rattle.std.proofs.Common.{◌≡◌, ℕ, List, Result, sym, subst}
+use Rattle.std.proofs.Common.{ℕ, List, Result, sym, subst}
 use Rattle.bed_lang.specs.declared.logic.Atom.{Atom}
 use Rattle.bed_deriv.specs.declared.rest.Onward.{Onward}
 use Rattle.bed_deriv.specs.Checks.{first_failure}
