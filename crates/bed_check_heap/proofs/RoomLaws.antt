@@ -1,6 +1,7 @@
 -- A state whose next fresh variable has no number has no room.
-use Rattle.std.proofs.Common.{◌≡◌, ℕ, ◌+◌, ◌<◌, ◌≤◌, Bool, true, false, ◌&&◌, nat_lt, List, [], ◌∷◌, ◌++◌, length, Result, Ok, Err, refl, ap, ◌∙◌, subst, arith}
+use Rattle.std.proofs.Common.{◌≡◌, ℕ, ◌+◌, ◌-◌, ◌<◌, ◌≤◌, Bool, true, false, ◌&&◌, nat_lt, List, [], ◌∷◌, ◌++◌, length, get_or, take, drop, append_assoc, Result, Ok, Err, refl, sym, ap, ◌∙◌, subst, arith}
 use Rattle.std.proofs.lemmas.Bool.{ltb-true}
+use Rattle.std.proofs.lemmas.List.{take_all}
 use Rattle.bed_lang.specs.declared.word.Name.{Name}
 use Rattle.bed_lang.specs.declared.logic.Arg.{Arg}
 use Rattle.bed_lang.specs.declared.logic.Pure.{Pure}
@@ -51,6 +52,28 @@ case_fails Count old new total vs A more s h e = absurd h
 case_fails Argument old new total vs A more s h e = absurd h
 case_fails Condition old new total vs A more s h e = subst (λ (ss : List SymState). have_room ss ≡ false) e (past s vs A more old h)
 case_fails Memory old new total vs A more s h e = tt
+
+-- a list is its first item and the others
+pub list_is : {A : Type 0} (xs : List A) (x : A) → x ≡ get_or xs 0 x → 1 ≤ length xs → xs ≡ x ∷ take (length xs - 1) (drop 1 xs)
+list_is [] x e h = absurd (omega (arith, h))
+list_is (y ∷ ys) x e h =
+    let first : y ≡ x = sym e in
+    let others : ys ≡ take (length (y ∷ ys) - 1) ys = sym (take_all (length (y ∷ ys) - 1) ys (omega arith)) in
+    ap (λ z. z ∷ ys) first ∙ ap (λ zs. x ∷ zs) others
+
+pub case_refused : (fault : Fault) (old new total : List SymState) (vs : List (Name × Arg)) (A : Assertion) (more rest : List Assertion) (s : SymState)
+    → OpensCase (Err fault) old new vs A s → rest ≡ A ∷ more → old ++ cases_opened s vs rest ≡ total → OpensCases (Err fault) total
+case_refused fault old new total vs A more rest s opens is e =
+    case_fails fault old new total vs A more s opens (ap (λ rs. old ++ cases_opened s vs rs) (sym is) ∙ e)
+
+pub case_more : (old new total : List SymState) (vs : List (Name × Arg)) (A : Assertion) (more rest : List Assertion) (s : SymState)
+    → new ≡ old ++ opened_anew alone vs A s ∷ [] → rest ≡ A ∷ more → old ++ cases_opened s vs rest ≡ total
+    → new ++ cases_opened s vs more ≡ total
+case_more old new total vs A more rest s opens is e =
+    ap (λ xs. xs ++ cases_opened s vs more) opens
+    ∙ append_assoc old (opened_anew alone vs A s ∷ []) (cases_opened s vs more)
+    ∙ ap (λ rs. old ++ cases_opened s vs rs) (sym is)
+    ∙ e
 
 -- and then the rule has none
 pub cases_fail : (fault : Fault) (states : List SymState) → OpensCases (Err fault) states → AnswersRoom (Err fault) (Ok (all_opened states))

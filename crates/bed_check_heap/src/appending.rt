@@ -1,5 +1,5 @@
 //! The rule append.
-ghost use Rattle.std.specs.Prelude.{◌≡◌, ◌∷◌, [], Some, IfOk};
+ghost use Rattle.std.specs.Prelude.{◌≡◌, ◌∷◌, [], Some, IfOk, OnOk};
 ghost use Rattle.bed_deriv.specs.Checks.{first_failure};
 ghost use Rattle.bed_deriv.specs.HeapRules.{Segment, segment_args, both_taken, with_atom, joined_segment, append_rule};
 ghost use Rattle.bed_check_pure.specs.Faults.{AnswersRule};
@@ -63,6 +63,20 @@ fn joined_atom(
     Ok(Atom::Pred(name, args))
 }
 
+// Puts that segment at the end.
+fn add_joined(
+    alloc: Global,
+    s: &mut SymState,
+    name: &Name,
+    first: Parts<'_>,
+    second: Parts<'_>,
+) -> Result<(), AllocError>
+    ensures { OnOk result (s.new ≡ with_atom s.old (joined_segment (segment_from name.now first.entry.0.now first.entry.1.now first.entry.2.now) (segment_from name.now second.entry.0.now second.entry.1.now second.entry.2.now))) }
+{
+    let atom = joined_atom(alloc, name, first, second)?;
+    add_atom(s, atom)
+}
+
 fn joined_state(
     alloc: Global,
     s: &SymState,
@@ -74,9 +88,8 @@ fn joined_state(
 ) -> Result<SymState, AllocError>
     ensures { IfOk result (λ r. r ≡ with_atom (both_taken s.now i j) (joined_segment (segment_from name.now first.entry.0.now first.entry.1.now first.entry.2.now) (segment_from name.now second.entry.0.now second.entry.1.now second.entry.2.now))) }
 {
-    let atom = joined_atom(alloc, name, first, second)?;
     let mut state = both_taken(alloc, s, i, j)?;
-    add_atom(&mut state, atom)?;
+    add_joined(alloc, &mut state, name, first, second)?;
     Ok(state)
 }
 

@@ -137,6 +137,19 @@ pub(crate) fn divide(
     }
 }
 
+fn add_merged(
+    alloc: Global,
+    s: &mut SymState,
+    e: &Word,
+    k: &Word,
+    l: &Word,
+) -> Result<(), AllocError>
+    ensures { OnOk result (s.new ≡ with_atom s.old (Atom.Block e.now (Word.Add k.now l.now))) }
+{
+    let words = sum(alloc, k, l)?;
+    add_block(alloc, s, e, &words)
+}
+
 // The state with one block at e in place of blocks i and j, of k and of l words.
 fn merged_state(
     alloc: Global,
@@ -149,9 +162,8 @@ fn merged_state(
 ) -> Result<SymState, AllocError>
     ensures { IfOk result (λ r. r ≡ merged_state s.now i j e.now k.now l.now) }
 {
-    let words = sum(alloc, k, l)?;
     let mut state = both_taken(alloc, s, i, j)?;
-    add_block(alloc, &mut state, e, &words)?;
+    add_merged(alloc, &mut state, e, k, l)?;
     Ok(state)
 }
 

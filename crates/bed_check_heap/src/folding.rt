@@ -1,10 +1,10 @@
 //! The rule fold.
-ghost use Rattle.std.specs.Prelude.{◌≡◌, ◌≤◌, ◌+◌, ◌∷◌, ◌++◌, [], IfOk, length};
+ghost use Rattle.std.specs.Prelude.{◌≡◌, ◌≤◌, ◌+◌, ◌∷◌, ◌++◌, [], IfOk, OnOk, length};
 ghost use Rattle.bed_lang.specs.Instances.{terms_with};
 ghost use Rattle.bed_deriv.specs.Opening.{alone};
 ghost use Rattle.bed_deriv.specs.Matches.{match_goals};
 ghost use Rattle.bed_deriv.specs.Checks.{first_failure};
-ghost use Rattle.bed_deriv.specs.HeapRules.{value_args, fold_rule};
+ghost use Rattle.bed_deriv.specs.HeapRules.{value_args, with_atom, fold_rule};
 ghost use Rattle.bed_check_pure.specs.Faults.{AnswersRule};
 ghost use Rattle.bed_check_heap.specs.Predicates.{folded_state, fold_goals, fold_atoms, fold_binders, fold_params, fold_case, fold_predicate};
 
@@ -40,6 +40,19 @@ fn folded_atom(alloc: Global, x: &Name, values: &[(Name, Arg)]) -> Result<Atom, 
     Ok(Atom::Pred(name, args))
 }
 
+// Puts that atom at the end.
+fn add_folded(
+    alloc: Global,
+    s: &mut SymState,
+    x: &Name,
+    values: &[(Name, Arg)],
+) -> Result<(), AllocError>
+    ensures { OnOk result (s.new ≡ with_atom s.old (Atom.Pred x.now (value_args values.now))) }
+{
+    let atom = folded_atom(alloc, x, values)?;
+    add_atom(s, atom)
+}
+
 // The state with a predicate's atom in place of the chosen ones.
 fn folded_state(
     alloc: Global,
@@ -50,9 +63,8 @@ fn folded_state(
 ) -> Result<SymState, AllocError>
     ensures { IfOk result (λ r. r ≡ folded_state s.now cs.now x.now values.now) }
 {
-    let atom = folded_atom(alloc, x, values)?;
     let mut state = without_chosen(alloc, s, cs)?;
-    add_atom(&mut state, atom)?;
+    add_folded(alloc, &mut state, x, values)?;
     Ok(state)
 }
 

@@ -50,7 +50,6 @@ fn push_case(
 }
 
 // The states with each case opened.
-#[tactic(auto, using(crate::proofs::RoomLaws::case_fails))]
 fn cases_opened(
     alloc: Global,
     s: &SymState,
@@ -62,7 +61,10 @@ fn cases_opened(
     let mut out = List::new(alloc);
     let mut rest = cases;
     while let [case, more @ ..] = rest {
-        push_case(alloc, &mut out, values, case, s)?;
+        match push_case(alloc, &mut out, values, case, s) {
+            Ok(()) => {}
+            Err(fault) => return Err(fault),
+        }
         rest = more;
     }
     Ok(out)
