@@ -1,5 +1,5 @@
 -- Terms that are opened and written anew from their forms have no other fresh variables.
-use Rattle.std.proofs.Common.{◌≡◌, ℕ, true, ◌&&◌, IsTrue, List, [], ◌∷◌, map, refl}
+use Rattle.std.proofs.Common.{ℕ, true, ◌&&◌, IsTrue, List, [], ◌∷◌, map, refl}
 use Rattle.std.proofs.lemmas.Bool.{and_parts, and_from}
 use Rattle.bed_lang.specs.declared.word.Word.{Word}
 use Rattle.bed_lang.specs.declared.word.Seq.{Seq}

@@ -36,7 +36,6 @@ use Rattle.bed_deriv.specs.Opening.{replacing, with_answer, fresh_values, with_t
 use Rattle.bed_deriv.specs.Steps as steps
 use Rattle.bed_deriv.specs.Steps.{operand_term, operand_terms, names_with, callee, code_goals, code_count, call}
 use Rattle.bed_deriv.specs.declared.rest.Rest.{Rest}
-use Rattle.bed_deriv.specs.declared.rest.Onward.{Onward}
 use Rattle.bed_deriv.proofs.KnownLaws.{every-append}
 use Rattle.bed_check_pure.specs.States.{AreTrueFacts, AreTrueAtoms, StateHolds}
 use Rattle.bed_check_heap.specs.Sound.{AgreeBelow}

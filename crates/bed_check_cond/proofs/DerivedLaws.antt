@@ -22,7 +22,7 @@ use Rattle.bed_deriv.specs.declared.state.SymState.{SymState}
 use Rattle.bed_deriv.specs.declared.state.Sequent.{Sequent}
 use Rattle.bed_deriv.specs.declared.state.Remainder.{Remainder}
 use Rattle.bed_deriv.specs.Checks.{first_failure, outcome, remainder}
-use Rattle.bed_deriv.specs.Derives.{Purpose, ForFacts, ForStates, ForSteps, ForEnds, purpose, pure_rule, heap_rule, fact_table, refused, facts_to_prove, proofs, from_states, states_to_close, rests_to_close, by_purpose, rules, whole, Derives}
+use Rattle.bed_deriv.specs.Derives.{Purpose, ForFacts, ForStates, ForSteps, ForEnds, purpose, pure_rule, heap_rule, fact_table, facts_to_prove, proofs, from_states, states_to_close, rests_to_close, by_purpose, rules, whole}
 use Rattle.bed_deriv.specs.declared.rest.Task.{Task}
 use Rattle.bed_deriv.specs.declared.rest.Task.TheVariants.{Proves}
 use Rattle.bed_deriv.specs.declared.rest.Task.TheVariants as task

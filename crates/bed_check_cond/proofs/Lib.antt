@@ -17,3 +17,14 @@ mod ChainLemmas
 mod RestLaws
 mod BeginLaws
 mod DerivedLaws
+mod PutLemmas
+mod RoomLemmas
+mod CountLemmas
+mod ComputedLemmas
+mod CallLemmas
+mod EndLemmas
+mod StackLemmas
+mod RestsLemmas
+mod TurnLemmas
+mod FactsLemmas
+mod AcceptedLaws

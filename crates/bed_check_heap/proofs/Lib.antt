@@ -14,6 +14,8 @@ pub mod FoldLaws
 pub mod SegmentLaws
 pub mod AppendLaws
 pub mod WithoutLaws
+pub mod CountLaws
+pub mod ValueLaws
 pub mod AnswerLaws
 pub mod RoomLaws
 pub mod ExampleLaws

@@ -13,7 +13,7 @@ use Rattle.bed_deriv.specs.declared.state.Remainder.{Remainder}
 use Rattle.bed_deriv.specs.Checks.{sequent}
 use Rattle.bed_deriv.specs.Walk.{walk}
 use Rattle.bed_deriv.specs.Derives.{fact_table}
-use Rattle.bed_check_heap.specs.Steps.{built_rule}
+use Rattle.bed_check_heap.specs.Steps.{state_table}
 
 -- bytes at the last three addresses and at 0
 abbrev pub bytes_across : SymState
@@ -37,7 +37,7 @@ first_goal (p ∷ ps) = p ∷ []
 abbrev pub AsksTooHighExample : Type 0
 AsksTooHighExample =
     (d : Decls) (m : Remainder)
-    → built_rule d Shape bytes_across
+    → state_table d Shape bytes_across
     (argument.Number 2 ∷ argument.Number 1 ∷ argument.Number 2 ∷ argument.Number 3 ∷ argument.Number 4 ∷ []) 5 ≡ Ok m
     → first_goal m.goals ≡ too_high ∷ []
 

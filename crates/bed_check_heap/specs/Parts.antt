@@ -12,8 +12,8 @@ use Rattle.bed_deriv.specs.declared.state.Remainder.{Remainder}
 use Rattle.bed_deriv.specs.Arguments.{numbered, number_at, word_at}
 use Rattle.bed_deriv.specs.Matches.{atoms_left}
 use Rattle.bed_deriv.specs.declared.derivation.Rule.{Rule}
-use Rattle.bed_deriv.specs.declared.derivation.Rule.TheVariants.{Claim, When, Never, Divide, Merge, Shape}
-use Rattle.bed_deriv.specs.HeapRules.{claim, case_split, never, divide, merge, shape, taken, both_taken, with_atom, block_of, cell_of, byte_of, fresh_word, four_bytes, with_next, bytes_at, follows}
+use Rattle.bed_deriv.specs.Derives.{Purpose, ForFacts, ForStates, ForSteps, ForEnds, purpose, heap_rule}
+use Rattle.bed_deriv.specs.HeapRules.{taken, both_taken, with_atom, block_of, cell_of, byte_of, fresh_word, four_bytes, with_next, bytes_at, follows}
 use Rattle.bed_deriv.specs.Checks.{Step, Needs, Given, first_failure, leaves, with_room, left_states, with_fact}
 use Rattle.bed_check_pure.specs.declared.fault.Fault.{Fault}
 use Rattle.bed_check_pure.specs.declared.fault.Fault.TheVariants.{Count, Argument, Condition, Memory}
@@ -124,14 +124,14 @@ last_bytes s cs a b y z =
     leaves (AtMost a.0 (Number 4294967292) ∷ follows a.0 b.0 1 ∷ follows a.0 c.0 2 ∷ follows a.0 e.0 3 ∷ [])
     (with_atom (record s { atoms = atoms_left cs 1 s.atoms }) (Cell a.0 (four_bytes a.1 b.1 c.1 e.1)) ∷ [])))
 
--- ---- the rules that are built
+-- ---- the rules
 
 -- what a rule leaves, whether or not its states have room
+abbrev pub raw_at : Decls → Purpose → Rule → SymState → List DArg → ℕ → Result Remainder ℕ
+raw_at d ForFacts r s args n = refused_rest d r s args n
+raw_at d ForStates r s args n = first_failure (heap_rule d r s args n)
+raw_at d ForSteps r s args n = Err 3
+raw_at d ForEnds r s args n = Err 3
+
 abbrev pub raw_rule : Decls → Rule → SymState → List DArg → ℕ → Result Remainder ℕ
-raw_rule d Claim s args n = first_failure (claim s args n)
-raw_rule d When s args n = first_failure (case_split s args n)
-raw_rule d Never s args n = first_failure (never args n)
-raw_rule d Divide s args n = first_failure (divide s args n)
-raw_rule d Merge s args n = first_failure (merge s args n)
-raw_rule d Shape s args n = first_failure (shape s args n)
-raw_rule d r s args n = refused_rest d r s args n
+raw_rule d r s args n = raw_at d (purpose r) r s args n

@@ -1,8 +1,10 @@
 //! Atoms taken out of a state, and put at its end.
 ghost use Rattle.std.specs.Prelude.{◌≡◌, ◌-◌, IfOk, OnOk};
+ghost use Rattle.bed_deriv.specs.Matches.{atoms_left};
 ghost use Rattle.bed_deriv.specs.HeapRules.{without, taken, both_taken, with_atom};
 
 use bed_deriv::SymState;
+use bed_deriv::choice::atoms_left;
 use bed_lang::{Atom, List, Tree, Word};
 use std::alloc::{AllocError, Global};
 
@@ -25,12 +27,8 @@ pub(crate) fn add_atom(s: &mut SymState, atom: Atom) -> Result<(), AllocError>
     s.atoms.push(atom)
 }
 
-/// The state with these atoms in place of its own.
-pub(crate) fn with_atoms(
-    alloc: Global,
-    s: &SymState,
-    atoms: List<Atom>,
-) -> Result<SymState, AllocError>
+// The state with these atoms in place of its own.
+fn with_atoms(alloc: Global, s: &SymState, atoms: List<Atom>) -> Result<SymState, AllocError>
     ensures { IfOk result (λ r. r ≡ record s.now { atoms = atoms }) }
 {
     Ok(SymState {
@@ -39,6 +37,18 @@ pub(crate) fn with_atoms(
         atoms,
         next: s.next,
     })
+}
+
+/// The state without the chosen atoms.
+pub(crate) fn without_chosen(
+    alloc: Global,
+    s: &SymState,
+    cs: &[(u32, Atom)],
+) -> Result<SymState, AllocError>
+    ensures { IfOk result (λ r. r ≡ record s.now { atoms = atoms_left cs.now 1 s.now.atoms }) }
+{
+    let atoms = atoms_left(alloc, cs, s.atoms.as_slice())?;
+    with_atoms(alloc, s, atoms)
 }
 
 /// The state without the atom of this number, from 1.
@@ -94,17 +104,33 @@ pub(crate) fn both_taken(
     }
 }
 
+fn cell(alloc: Global, address: &Word, content: &Word) -> Result<Atom, AllocError>
+    ensures { IfOk result (λ r. r ≡ Atom.Cell address.now content.now) }
+{
+    let address = address.copy(alloc)?;
+    let content = content.copy(alloc)?;
+    Ok(Atom::Cell(address, content))
+}
+
+fn block(alloc: Global, address: &Word, words: &Word) -> Result<Atom, AllocError>
+    ensures { IfOk result (λ r. r ≡ Atom.Block address.now words.now) }
+{
+    let address = address.copy(alloc)?;
+    let words = words.copy(alloc)?;
+    Ok(Atom::Block(address, words))
+}
+
 /// Puts a cell at the end, with this content at this address.
 pub(crate) fn add_cell(
     alloc: Global,
     s: &mut SymState,
     address: &Word,
-    content: Word,
+    content: &Word,
 ) -> Result<(), AllocError>
-    ensures { OnOk result (s.new ≡ with_atom s.old (Atom.Cell address.now content)) }
+    ensures { OnOk result (s.new ≡ with_atom s.old (Atom.Cell address.now content.now)) }
 {
-    let address = address.copy(alloc)?;
-    add_atom(s, Atom::Cell(address, content))
+    let atom = cell(alloc, address, content)?;
+    add_atom(s, atom)
 }
 
 /// Puts a block at the end, of these words from this address.
@@ -112,10 +138,10 @@ pub(crate) fn add_block(
     alloc: Global,
     s: &mut SymState,
     address: &Word,
-    words: Word,
+    words: &Word,
 ) -> Result<(), AllocError>
-    ensures { OnOk result (s.new ≡ with_atom s.old (Atom.Block address.now words)) }
+    ensures { OnOk result (s.new ≡ with_atom s.old (Atom.Block address.now words.now)) }
 {
-    let address = address.copy(alloc)?;
-    add_atom(s, Atom::Block(address, words))
+    let atom = block(alloc, address, words)?;
+    add_atom(s, atom)
 }

@@ -14,14 +14,6 @@ use bed_deriv::{DArg, Remainder, SymState};
 use bed_lang::{Atom, Pure, Word};
 use std::alloc::{AllocError, Global};
 
-// Puts the first m words of a block at the end.
-fn add_first_part(alloc: Global, s: &mut SymState, e: &Word, m: &Word) -> Result<(), AllocError>
-    ensures { OnOk result (s.new ≡ with_atom s.old (Atom.Block e.now m.now)) }
-{
-    let words = m.copy(alloc)?;
-    add_block(alloc, s, e, words)
-}
-
 // The second part of a block that is divided after m words.
 fn second_part(alloc: Global, e: &Word, k: &Word, m: &Word) -> Result<Atom, AllocError>
     ensures { IfOk result (λ r. r ≡ Atom.Block (Word.Add e.now (Word.Times 4 m.now)) (Word.Sub k.now m.now)) }
@@ -56,16 +48,29 @@ fn divided_state(
     ensures { IfOk result (λ r. r ≡ divided_state s.now i e.now k.now m.now) }
 {
     let mut state = taken(alloc, s, i)?;
-    add_first_part(alloc, &mut state, e, m)?;
+    add_block(alloc, &mut state, e, m)?;
     add_second_part(alloc, &mut state, e, k, m)?;
     Ok(state)
 }
 
-fn where_at_most(alloc: Global, m: Word, k: &Word, state: SymState) -> Result<Remainder, AllocError>
-    ensures { IfOk result (λ r. r ≡ goal_and (Pure.AtMost m k.now) state) }
+fn at_most(alloc: Global, m: &Word, k: &Word) -> Result<Pure, AllocError>
+    ensures { IfOk result (λ r. r ≡ Pure.AtMost m.now k.now) }
 {
-    let words = k.copy(alloc)?;
-    goal_and_state(alloc, Pure::AtMost(m, words), state)
+    let m = m.copy(alloc)?;
+    let k = k.copy(alloc)?;
+    Ok(Pure::AtMost(m, k))
+}
+
+fn where_at_most(
+    alloc: Global,
+    m: &Word,
+    k: &Word,
+    state: SymState,
+) -> Result<Remainder, AllocError>
+    ensures { IfOk result (λ r. r ≡ goal_and (Pure.AtMost m.now k.now) state) }
+{
+    let goal = at_most(alloc, m, k)?;
+    goal_and_state(alloc, goal, state)
 }
 
 // What `divide` leaves of block i.
@@ -75,16 +80,16 @@ fn divided(
     i: u32,
     e: &Word,
     k: &Word,
-    m: Word,
+    m: &Word,
 ) -> Result<Remainder, AllocError>
-    ensures { IfOk result (λ r. r ≡ divided s.now i e.now k.now m) }
+    ensures { IfOk result (λ r. r ≡ divided s.now i e.now k.now m.now) }
 {
-    let state = divided_state(alloc, s, i, e, k, &m)?;
+    let state = divided_state(alloc, s, i, e, k, m)?;
     where_at_most(alloc, m, k, state)
 }
 
-fn divide_atom(alloc: Global, s: &SymState, i: u32, x: &Atom, m: Word) -> Result<Remainder, Fault>
-    ensures { AnswersRule result (first_failure (divide_atom s.now i x.now m)) }
+fn divide_atom(alloc: Global, s: &SymState, i: u32, x: &Atom, m: &Word) -> Result<Remainder, Fault>
+    ensures { AnswersRule result (first_failure (divide_atom s.now i x.now m.now)) }
 {
     match x {
         Atom::Block(e, k) => match divided(alloc, s, i, e, k, m) {
@@ -107,7 +112,7 @@ fn divide_from(
     match word_at(alloc, s, args, 1) {
         Err(_) => Err(Fault::Memory),
         Ok(None) => Err(Fault::Argument),
-        Ok(Some(m)) => divide_atom(alloc, s, i, x, m),
+        Ok(Some(m)) => divide_atom(alloc, s, i, x, &m),
     }
 }
 
@@ -132,12 +137,17 @@ pub(crate) fn divide(
     }
 }
 
-fn both_words(alloc: Global, k: &Word, l: &Word) -> Result<Word, AllocError>
-    ensures { IfOk result (λ r. r ≡ Word.Add k.now l.now) }
+fn add_merged(
+    alloc: Global,
+    s: &mut SymState,
+    e: &Word,
+    k: &Word,
+    l: &Word,
+) -> Result<(), AllocError>
+    ensures { OnOk result (s.new ≡ with_atom s.old (Atom.Block e.now (Word.Add k.now l.now))) }
 {
-    let first = k.copy(alloc)?;
-    let second = l.copy(alloc)?;
-    sum(alloc, first, second)
+    let words = sum(alloc, k, l)?;
+    add_block(alloc, s, e, &words)
 }
 
 // The state with one block at e in place of blocks i and j, of k and of l words.
@@ -152,9 +162,8 @@ fn merged_state(
 ) -> Result<SymState, AllocError>
     ensures { IfOk result (λ r. r ≡ merged_state s.now i j e.now k.now l.now) }
 {
-    let words = both_words(alloc, k, l)?;
     let mut state = both_taken(alloc, s, i, j)?;
-    add_block(alloc, &mut state, e, words)?;
+    add_merged(alloc, &mut state, e, k, l)?;
     Ok(state)
 }
 

@@ -1,14 +1,14 @@
 //! The rules claim, when and never.
-ghost use Rattle.std.specs.Prelude.{◌≡◌, ◌∷◌, [], IfOk};
+ghost use Rattle.std.specs.Prelude.{◌≡◌, ◌∷◌, [], IfOk, slice_get};
 ghost use Rattle.bed_deriv.specs.Checks.{first_failure, with_fact};
 ghost use Rattle.bed_deriv.specs.HeapRules.{claim, case_split, never};
 ghost use Rattle.bed_check_pure.specs.Faults.{AnswersRule};
 ghost use Rattle.bed_check_heap.specs.Parts.{goal_and, cases_of};
 
 use crate::remainder::{goal_and_state, two_states};
-use bed_check_pure::Fault;
+use bed_check_pure::{Fault, negated};
 use bed_deriv::arguments::fact_given;
-use bed_deriv::{DArg, Remainder, SymState, negation};
+use bed_deriv::{DArg, Remainder, SymState};
 use bed_lang::{List, Pure, Word};
 use std::alloc::{AllocError, Global};
 
@@ -54,20 +54,20 @@ fn both_states(
     alloc: Global,
     s: &SymState,
     first: &Pure,
-    second: Pure,
+    second: &Pure,
 ) -> Result<Remainder, AllocError>
-    ensures { IfOk result (λ m. m ≡ record { goals = []; states = with_fact s.now first.now ∷ with_fact s.now second ∷ [] }) }
+    ensures { IfOk result (λ m. m ≡ record { goals = []; states = with_fact s.now first.now ∷ with_fact s.now second.now ∷ [] }) }
 {
     let with_first = with_copy(alloc, s, first)?;
-    let with_second = s.with_fact(alloc, second)?;
+    let with_second = with_copy(alloc, s, second)?;
     two_states(alloc, with_first, with_second)
 }
 
 // What `when` leaves, by the negation of its fact.
-fn cases_of(alloc: Global, s: &SymState, p: &Pure, other: Option<Pure>) -> Result<Remainder, Fault>
-    ensures { AnswersRule result (first_failure (cases_of s.now p.now other)) }
+fn cases_of(alloc: Global, s: &SymState, p: &Pure, others: &[Pure]) -> Result<Remainder, Fault>
+    ensures { AnswersRule result (first_failure (cases_of s.now p.now (slice_get others.now 0))) }
 {
-    match other {
+    match others.get(0) {
         None => Err(Fault::Condition),
         Some(other) => match both_states(alloc, s, p, other) {
             Ok(left) => Ok(left),
@@ -90,9 +90,9 @@ pub(crate) fn case_split(
     }
     match fact_given(s, args, 0) {
         None => Err(Fault::Argument),
-        Some(p) => match negation(alloc, p) {
+        Some(p) => match negated(alloc, p) {
             Err(_) => Err(Fault::Memory),
-            Ok(other) => cases_of(alloc, s, p, other),
+            Ok(others) => cases_of(alloc, s, p, others.as_slice()),
         },
     }
 }

@@ -7,7 +7,7 @@ ghost use Rattle.bed_check_heap.specs.Steps.{Answers};
 ghost use Rattle.bed_deriv.specs.Nodes.{where_walked, children_walked};
 ghost use Rattle.bed_lang.specs.Instances.{terms_with};
 ghost use Rattle.bed_deriv.specs.Opening.{replacing};
-ghost use Rattle.bed_check_pure.specs.Answers.{built_table};
+ghost use Rattle.bed_check_pure.specs.Answers.{goal_table};
 ghost use Rattle.bed_check_heap.specs.Instances.{matched};
 ghost use Rattle.bed_deriv.specs.Instances.{match_terms, matched_node};
 ghost use Rattle.bed_check_heap.specs.Matching.{AnswersMatch, match_left, match_chosen};
@@ -130,7 +130,7 @@ fn after_match(
     found: Match,
     node: u32,
 ) -> Result<List<u32>, Verdict>
-    ensures { Answers result (where_walked found.left (children_walked (built_table decls.now) s.now children.now found.goals node)) }
+    ensures { Answers result (where_walked found.left (children_walked (goal_table decls.now) s.now children.now found.goals node)) }
 {
     let Match { goals, left } = found;
     match children_walked(alloc, decls, s, children, goals.as_slice(), node) {
@@ -154,7 +154,7 @@ pub fn instance_of_terms(
     node: u32,
 ) -> Result<List<u32>, Verdict>
     requires { length s.now.atoms < 4294967296 }
-    ensures { Answers result (matched_node (built_table decls.now) s.now terms.now (out-Deriv d.now) node) }
+    ensures { Answers result (matched_node (goal_table decls.now) s.now terms.now (out-Deriv d.now) node) }
 {
     match match_terms(alloc, s, terms, d.args.as_slice(), d.children.len()) {
         Err(Fault::Count) => Err(Verdict::Reject { node, premise: 1 }),
@@ -178,7 +178,7 @@ fn matched_list(
     d: &Deriv,
 ) -> Result<List<u32>, Verdict>
     requires { length s.now.atoms < 4294967296 }
-    ensures { Answers result (matched_node (built_table decls.now) s.now terms (out-Deriv d.now) 1) }
+    ensures { Answers result (matched_node (goal_table decls.now) s.now terms (out-Deriv d.now) 1) }
 {
     instance_of_terms(alloc, decls, s, terms.as_slice(), d, 1)
 }

@@ -7,7 +7,8 @@ use bed_deriv::{Remainder, SymState};
 use bed_lang::{List, Pure, Word};
 use std::alloc::{AllocError, Global};
 
-fn no_goals(alloc: Global) -> List<Pure>
+/// Nothing to prove.
+pub(crate) fn no_goals(alloc: Global) -> List<Pure>
     ensures { result ≡ [] }
 {
     List::new(alloc)

@@ -2,16 +2,16 @@
 ghost use Rattle.std.specs.Prelude.{◌≡◌, ◌<◌, ◌+◌, ◌∷◌, ◌++◌, [], IfOk, OnOk};
 ghost use Rattle.bed_deriv.specs.Arguments.{numbered};
 ghost use Rattle.bed_deriv.specs.Checks.{Given, Needs, first_failure, with_fact};
-ghost use Rattle.bed_deriv.specs.Matches.{all_different, atoms_left};
+ghost use Rattle.bed_deriv.specs.Matches.{all_different};
 ghost use Rattle.bed_deriv.specs.HeapRules.{taken, with_next, shapes, bytes_at, shape_of, shape, cell_to_bytes, bytes_to_cell, four_chosen, follows, four_bytes, fresh_word, with_atom, block_to_cell, cell_to_block, drop_block};
 ghost use Rattle.bed_check_heap.specs.Parts.{AnswersRoom, only, goal_and, bytes_made, bytes_of_cell, cell_of_block, cell_from_block, block_of_cell, block_from_cell, without_block, block_dropped, last_bytes, bytes_joined, cell_joined};
 
-use crate::atoms::{add_atom, add_block, add_cell, taken, with_atoms};
+use crate::atoms::{add_atom, add_cell, taken, without_chosen};
 use crate::remainder::{equal_and_state, goals_and_state, only_state};
 use crate::words::{four_bytes, fresh_word, plus};
 use bed_check_pure::Fault;
 use bed_deriv::arguments::{number_at, numbered};
-use bed_deriv::choice::{all_different, atoms_left, chosen};
+use bed_deriv::choice::{all_different, chosen};
 use bed_deriv::{DArg, Remainder, SymState};
 use bed_lang::{Atom, List, Pure, Word};
 use std::alloc::{AllocError, Global};
@@ -194,16 +194,23 @@ fn joined_goals(
     Ok(goals)
 }
 
-// The state without the chosen atoms.
-fn without_chosen(alloc: Global, s: &SymState, cs: &[(u32, Atom)]) -> Result<SymState, AllocError>
-    ensures { IfOk result (λ r. r ≡ record s.now { atoms = atoms_left cs.now 1 s.now.atoms }) }
-{
-    let atoms = atoms_left(alloc, cs, s.atoms.as_slice())?;
-    with_atoms(alloc, s, atoms)
-}
-
 // A byte's address and its content.
 type Byte<'a> = (&'a Word, &'a Word);
+
+// Puts the cell of four bytes at the end.
+fn add_joined(
+    alloc: Global,
+    s: &mut SymState,
+    first: Byte<'_>,
+    second: &Word,
+    third: &Word,
+    fourth: &Word,
+) -> Result<(), AllocError>
+    ensures { OnOk result (s.new ≡ with_atom s.old (Atom.Cell first.entry.0.now (four_bytes first.entry.1.now second.now third.now fourth.now))) }
+{
+    let content = four_bytes(alloc, first.1, second, third, fourth)?;
+    add_cell(alloc, s, first.0, &content)
+}
 
 // The state with a cell in place of four chosen bytes.
 fn cell_joined(
@@ -218,8 +225,7 @@ fn cell_joined(
     ensures { IfOk result (λ r. r ≡ cell_joined s.now cs.now first.entry.0.now first.entry.1.now second.now third.now fourth.now) }
 {
     let mut state = without_chosen(alloc, s, cs)?;
-    let content = four_bytes(alloc, first.1, second, third, fourth)?;
-    add_cell(alloc, &mut state, first.0, content)?;
+    add_joined(alloc, &mut state, first, second, third, fourth)?;
     Ok(state)
 }
 
@@ -303,6 +309,22 @@ fn bytes_to_cell(alloc: Global, s: &SymState, args: &[DArg], n: usize) -> Result
 
 // ---- cells and blocks of one word, and blocks of none
 
+// Puts a cell of a fresh content at the end.
+fn add_fresh_cell(alloc: Global, s: &mut SymState, e: &Word, f: u32) -> Result<(), AllocError>
+    ensures { OnOk result (s.new ≡ with_atom s.old (Atom.Cell e.now (fresh_word f))) }
+{
+    let address = e.copy(alloc)?;
+    add_atom(s, Atom::Cell(address, fresh_word(f)))
+}
+
+// Puts a block of one word at the end.
+fn add_one_word(alloc: Global, s: &mut SymState, e: &Word) -> Result<(), AllocError>
+    ensures { OnOk result (s.new ≡ with_atom s.old (Atom.Block e.now (Word.Number 1))) }
+{
+    let address = e.copy(alloc)?;
+    add_atom(s, Atom::Block(address, Word::Number(1)))
+}
+
 fn cell_from_block(
     alloc: Global,
     s: &SymState,
@@ -314,7 +336,7 @@ fn cell_from_block(
     ensures { IfOk result (λ r. r ≡ cell_from_block s.now i e.now k.now) }
 {
     let mut state = with_fresh(alloc, s, i, 1)?;
-    add_cell(alloc, &mut state, e, fresh_word(s.next))?;
+    add_fresh_cell(alloc, &mut state, e, s.next)?;
     equal_and_state(alloc, k, 1, state)
 }
 
@@ -356,7 +378,7 @@ fn block_from_cell(alloc: Global, s: &SymState, i: u32, e: &Word) -> Result<Rema
     ensures { IfOk result (λ r. r ≡ block_from_cell s.now i e.now) }
 {
     let mut state = taken(alloc, s, i)?;
-    add_block(alloc, &mut state, e, Word::Number(1))?;
+    add_one_word(alloc, &mut state, e)?;
     only_state(alloc, state)
 }
 

@@ -2,7 +2,7 @@
 ghost use Rattle.std.specs.Prelude.{◌≡◌, IfOk};
 ghost use Rattle.bed_deriv.specs.Checks.{sequent};
 ghost use Rattle.bed_deriv.specs.Walk.{walk};
-ghost use Rattle.bed_check_pure.specs.Answers.{built_table};
+ghost use Rattle.bed_check_pure.specs.Answers.{goal_table};
 ghost use Rattle.bed_check_pure.specs.Faults.{AnswersWalk};
 ghost use Rattle.bed_deriv.specs.Nodes.{children_walked};
 
@@ -27,7 +27,7 @@ fn child_walked(
     child: &Deriv,
     node: u32,
 ) -> Result<u32, Verdict>
-    ensures { AnswersWalk result (walk (built_table decls.now) child.now (sequent s.now goal.now) node) }
+    ensures { AnswersWalk result (walk (goal_table decls.now) child.now (sequent s.now goal.now) node) }
 {
     match sequent(alloc, s, goal) {
         Err(_) => Err(Verdict::Memory),
@@ -50,7 +50,7 @@ pub fn children_walked(
     goals: &[Pure],
     node: u32,
 ) -> Result<u32, Verdict>
-    ensures { AnswersWalk result (children_walked (built_table decls.now) s.now children.now goals.now node) }
+    ensures { AnswersWalk result (children_walked (goal_table decls.now) s.now children.now goals.now node) }
 {
     let mut at = node;
     let mut rest = goals;

@@ -12,7 +12,11 @@ pub mod ChainLaws
 pub mod CombLaws
 pub mod ReplacedLaws
 pub mod SolveLaws
+pub mod CoefficientLaws
+pub mod LegLaws
+pub mod CombinationLaws
+pub mod CountLaws
 pub mod RefusalLaws
 pub mod TableLaws
 pub mod WalkLaws
-pub mod BuiltLaws
+pub mod AcceptedLaws

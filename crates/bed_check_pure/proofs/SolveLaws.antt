@@ -8,7 +8,6 @@ use Rattle.std.specs.Ordering.{nat_cmp}
 use Rattle.std.proofs.lemmas.Bool.{and_parts, both_ways}
 use Rattle.bed_machine.specs.Memory.{Memory}
 use Rattle.bed_lang.specs.declared.word.Var.{Var}
-use Rattle.bed_lang.specs.declared.word.Var.TheVariants as var
 use Rattle.bed_lang.specs.declared.word.Word.{Word, Var as WordVar}
 use Rattle.bed_lang.specs.declared.word.Seq.{Seq, Var as SeqVar}
 use Rattle.bed_lang.specs.declared.form.Key.{Key}
@@ -63,10 +62,10 @@ of_occurrence Answer = refl
 of_occurrence (Fresh n) = refl
 of_occurrence Hole = refl
 
-same_key-text : (a b : Key) → same_key a b ≡ true → key_text a ≡ key_text b
+pub same_key-text : (a b : Key) → same_key a b ≡ true → key_text a ≡ key_text b
 same_key-text a b h = sym (text-of_bare a) ∙ ap key_text ((same_key-decides a b).0 h) ∙ text-of_bare b
 
-text-same_key : (a b : Key) → key_text a ≡ key_text b → same_key a b ≡ true
+pub text-same_key : (a b : Key) → key_text a ≡ key_text b → same_key a b ≡ true
 text-same_key a b e = (same_key-decides a b).1 (text-bare a b e)
 
 module _ (v : Var) where

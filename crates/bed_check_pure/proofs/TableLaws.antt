@@ -6,16 +6,15 @@ use Rattle.bed_sat.specs.Assertions.{World}
 use Rattle.bed_sat.specs.Valid.{LabelsFit}
 use Rattle.bed_deriv.specs.declared.derivation.DArg.{DArg}
 use Rattle.bed_deriv.specs.declared.derivation.Rule.{Rule}
-use Rattle.bed_deriv.specs.declared.derivation.Rule.TheVariants.{Hyp, Norm, Comb, Solve, Uncons, Chain, Order, Cut, Carry, Split, Absurd, Void, Member, Lacks, Part, One, Distinct, Bound, Label, Claim, When, Never, Divide, Merge, Shape}
+use Rattle.bed_deriv.specs.declared.derivation.Rule.TheVariants.{Hyp, Norm, Comb, Solve, Uncons, Chain, Order, Cut, Carry, Split, Absurd, Void, Member, Lacks, Part, One, Distinct, Bound, Label}
 use Rattle.bed_deriv.specs.declared.state.Sequent.{Sequent}
 use Rattle.bed_deriv.specs.PureRules.{hyp, norm, comb, solve, order, cut, carry, split, contradiction, distinct, bound, label}
 use Rattle.bed_deriv.specs.ListRules.{uncons, void, member, lacks, part, one}
 use Rattle.bed_deriv.specs.Chains.{chain}
-use Rattle.bed_deriv.specs.HeapRules.{claim, case_split, never, divide, merge, shape}
 use Rattle.bed_deriv.specs.Checks.{remainder}
-use Rattle.bed_deriv.specs.Derives.{fact_table}
+use Rattle.bed_deriv.specs.Derives.{Purpose, ForFacts, ForStates, ForSteps, ForEnds, purpose, fact_table, heap_rule}
 use Rattle.bed_check_pure.specs.Sound.{FollowsAt, AllFollowAt}
-use Rattle.bed_check_pure.specs.Answers.{built_table}
+use Rattle.bed_check_pure.specs.Answers.{at_fact, goal_table}
 use Rattle.bed_check_pure.specs.Laws.{HypIsSound, NormIsSound, CombIsSound, SolveIsSound, UnconsIsSound, ChainIsSound, OrderIsSound, CutIsSound, CarryIsSound, SplitIsSound, AbsurdIsSound, VoidIsSound, MemberIsSound, LacksIsSound, PartIsSound, OneIsSound, DistinctIsSound, BoundIsSound, LabelIsSound}
 use Rattle.bed_check_pure.proofs.CheckLaws.{sound_outcome}
 use Rattle.bed_check_pure.proofs.RuleLaws.{hyp_sound, norm_sound, order_sound, cut_sound, carry_sound, split_sound, absurd_sound, distinct_sound, bound_sound}
@@ -55,19 +54,17 @@ module _ (w : World) (ν : Values) (h : Memory) (q : Sequent) (args : List DArg)
   fact_sound fits Label e = sound_outcome w ν h q n (label w.decls (Some q.goal) args n) (label_sound w ν h fits q args n) goals e
   fact_sound fits _ e = absurd (cc)
 
-  built_is_fact : (r : Rule) → built_table w.decls r q args n ≡ Ok goals → fact_table w.decls r q args n ≡ Ok goals
-  built_is_fact Hyp e = e
-  built_is_fact Claim e = absurd (never_accepted (remainder (claim q.state args n)) goals e)
-  built_is_fact When e = absurd (never_accepted (remainder (case_split q.state args n)) goals e)
-  built_is_fact Never e = absurd (never_accepted (remainder (never args n)) goals e)
-  built_is_fact Divide e = absurd (never_accepted (remainder (divide q.state args n)) goals e)
-  built_is_fact Merge e = absurd (never_accepted (remainder (merge q.state args n)) goals e)
-  built_is_fact Shape e = absurd (never_accepted (remainder (shape q.state args n)) goals e)
-  built_is_fact _ e = cc
+  goal_is_fact : (r : Rule) (p : Purpose) → at_fact w.decls p r q args n ≡ Ok goals → fact_table w.decls r q args n ≡ Ok goals
+  goal_is_fact r ForFacts e = e
+  goal_is_fact r ForStates e = absurd (never_accepted (remainder (heap_rule w.decls r q.state args n)) goals e)
+  goal_is_fact r ForSteps e = absurd (cc)
+  goal_is_fact r ForEnds e = absurd (cc)
 
-  -- and so do those of a rule that is built
-  pub built_sound : LabelsFit w → (r : Rule) → built_table w.decls r q args n ≡ Ok goals → Suffice
-  built_sound fits r e = fact_sound fits r (built_is_fact r e)
+-- and so do those of a rule at a fact
+pub goal_sound : (w : World) (ν : Values) (h : Memory) (q : Sequent) (args : List DArg) (n : ℕ) (goals : List Sequent) → LabelsFit w → (r : Rule)
+    → goal_table w.decls r q args n ≡ Ok goals → Suffice w ν h q args n goals
+unfolding goal_table
+goal_sound w ν h q args n goals fits r e = fact_sound w ν h q args n goals fits r (goal_is_fact w ν h q args n goals r (purpose r) e)
 
 -- ---- the laws
 

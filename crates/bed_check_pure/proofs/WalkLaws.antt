@@ -17,8 +17,8 @@ use Rattle.bed_deriv.specs.Walk.{Table, Walked, Walk, and_then, walk_all, walk_b
 use Rattle.bed_deriv.specs.Derives.{fact_table}
 use Rattle.bed_check_pure.specs.States.{AreTrueFacts, StateHolds, world}
 use Rattle.bed_check_pure.specs.Sound.{FollowsAt, AllFollowAt, Follows}
-use Rattle.bed_check_pure.specs.Answers.{built_table, walked}
-use Rattle.bed_check_pure.proofs.TableLaws.{fact_sound, built_sound}
+use Rattle.bed_check_pure.specs.Answers.{goal_table, walked}
+use Rattle.bed_check_pure.proofs.TableLaws.{fact_sound, goal_sound}
 
 then_parts : (w : Walked) (f : ℕ → Walked) (m : ℕ) → and_then w f ≡ Ok m → (k : ℕ) × (w ≡ Ok k) × (f k ≡ Ok m)
 then_parts (Ok k) f m e = (k, refl, e)
@@ -69,8 +69,8 @@ module _ {T : Type 0} (table : Table T) (P : T → Type 0) (All : List T → Typ
 
 module _ (w : World) (ν : Values) (h : Memory) (fits : LabelsFit w) where
   -- a goal that a tree is accepted for follows
-  pub tree_follows : (t : Deriv) (q : Sequent) (n last : ℕ) → walk (built_table w.decls) t q n ≡ Ok last → FollowsAt w ν h q
-  tree_follows = walk_sound (built_table w.decls) (FollowsAt w ν h) (AllFollowAt w ν h) tt (λ q qs one others. (one, others)) (λ r q args n qs. built_sound w ν h q args n qs fits r)
+  pub tree_follows : (t : Deriv) (q : Sequent) (n last : ℕ) → walk (goal_table w.decls) t q n ≡ Ok last → FollowsAt w ν h q
+  tree_follows = walk_sound (goal_table w.decls) (FollowsAt w ν h) (AllFollowAt w ν h) tt (λ q qs one others. (one, others)) (λ r q args n qs. goal_sound w ν h q args n qs fits r)
 
   -- by all rules for facts too
   pub whole_follows : (t : Deriv) (q : Sequent) (n last : ℕ) → walk (fact_table w.decls) t q n ≡ Ok last → FollowsAt w ν h q
@@ -78,8 +78,8 @@ module _ (w : World) (ν : Values) (h : Memory) (fits : LabelsFit w) where
 
   -- and so do the goals that trees are accepted for, in order, where there are as many trees as goals, or more
   pub trees_follow : (ts : List Deriv) (qs : List Sequent) (n last : ℕ) → length qs ≤ length ts
-      → walk_all (map (walk (built_table w.decls)) ts) qs n ≡ Ok last → AllFollowAt w ν h qs
-  trees_follow = walk_all_sound (built_table w.decls) (FollowsAt w ν h) (AllFollowAt w ν h) tt (λ q qs one others. (one, others)) (λ r q args n qs. built_sound w ν h q args n qs fits r)
+      → walk_all (map (walk (goal_table w.decls)) ts) qs n ≡ Ok last → AllFollowAt w ν h qs
+  trees_follow = walk_all_sound (goal_table w.decls) (FollowsAt w ν h) (AllFollowAt w ν h) tt (λ q qs one others. (one, others)) (λ r q args n qs. goal_sound w ν h q args n qs fits r)
 
   goals_true : (s : SymState) (gs : List Pure) → AllFollowAt w ν h (map (sequent s) gs) → StateHolds w ν h s → AreTrueFacts w ν gs
   goals_true s [] follow holds = tt
@@ -87,7 +87,7 @@ module _ (w : World) (ν : Values) (h : Memory) (fits : LabelsFit w) where
 
   -- goals in one state, each with its tree, are true where the state holds
   pub trees_true : (ts : List Deriv) (s : SymState) (gs : List Pure) (n last : ℕ) → length gs ≤ length ts
-      → walk_all (map (walk (built_table w.decls)) ts) (map (sequent s) gs) n ≡ Ok last → StateHolds w ν h s → AreTrueFacts w ν gs
+      → walk_all (map (walk (goal_table w.decls)) ts) (map (sequent s) gs) n ≡ Ok last → StateHolds w ν h s → AreTrueFacts w ν gs
   trees_true ts s gs n last l e = goals_true s gs (trees_follow ts (map (sequent s) gs) n last (rw (length-map gs (sequent s)) l) e)
 
 -- a goal follows from a state wherever a tree is accepted for it

@@ -1,17 +1,12 @@
 -- What the code of a rule answers: the premises' answer, but for want of memory.
-use Rattle.std.specs.Prelude.{◌≡◌, ℕ, List, [], ◌∷◌, Option, Result, Ok, Err}
+use Rattle.std.specs.Prelude.{◌≡◌, ℕ, [], ◌∷◌, Option, Result, Ok, Err}
 use Rattle.bed_lang.specs.declared.logic.Pure.{Pure}
 use Rattle.bed_lang.specs.SameFacts.{same_facts}
 use Rattle.bed_deriv.specs.declared.state.SymState.{SymState}
-use Rattle.bed_deriv.specs.declared.state.Sequent.{Sequent}
-use Rattle.bed_deriv.specs.declared.derivation.Rule.{Rule}
-use Rattle.bed_deriv.specs.declared.derivation.Rule.TheVariants.{Hyp, Norm, Order, Cut, Carry, Split, Absurd, Distinct, Bound}
-use Rattle.bed_deriv.specs.declared.derivation.DArg.{DArg}
-use Rattle.bed_deriv.specs.PureRules.{hyp, norm, order, cut, carry, split, contradiction, distinct, bound}
 use Rattle.bed_deriv.specs.Walk.{Walked}
 use Rattle.bed_check_pure.specs.declared.verdict.Verdict.{Verdict}
 use Rattle.bed_check_pure.specs.declared.verdict.Verdict.TheVariants as verdict
-use Rattle.bed_deriv.specs.Checks.{Goals, Given, Needs, Leaves, first_failure, sequent, with_fact}
+use Rattle.bed_deriv.specs.Checks.{Goals, Given, Needs, Leaves, sequent, with_fact}
 use Rattle.bed_check_pure.specs.declared.fault.Fault.{Fault}
 use Rattle.bed_check_pure.specs.declared.fault.Fault.TheVariants.{Count, Argument, Condition, Memory}
 
@@ -28,19 +23,6 @@ says goal p = Given 3 goal (λ g. Needs 3 (same_facts g p) (Leaves []))
 
 abbrev pub cut_goals : SymState → Option Pure → Pure → Goals
 cut_goals s goal p = Given 3 goal (λ g. Leaves (sequent s p ∷ sequent (with_fact s p) g ∷ []))
-
--- what a rule for facts leaves to prove, whether or not its states have room
-abbrev pub raw_fact_rule : Rule → SymState → Option Pure → List DArg → ℕ → Result (List Sequent) ℕ
-raw_fact_rule Hyp s goal args n = first_failure (hyp s goal args n)
-raw_fact_rule Norm s goal args n = first_failure (norm goal args n)
-raw_fact_rule Order s goal args n = first_failure (order s goal args n)
-raw_fact_rule Cut s goal args n = first_failure (cut s goal args n)
-raw_fact_rule Carry s goal args n = first_failure (carry s goal args n)
-raw_fact_rule Split s goal args n = first_failure (split s goal args n)
-raw_fact_rule Absurd s goal args n = first_failure (contradiction s goal args n)
-raw_fact_rule Distinct s goal args n = first_failure (distinct s goal args n)
-raw_fact_rule Bound s goal args n = first_failure (bound s goal args n)
-raw_fact_rule _ s goal args n = Err 3
 
 -- the answer of a walk, but for want of memory
 abbrev pub AnswersWalk : Result ℕ Verdict → Walked → Type 0

@@ -1,6 +1,10 @@
 pub mod States
 pub mod Refusals
 pub mod Faults
+pub mod Pieces
+pub mod Solutions
+pub mod Combinations
+pub mod Legs
 pub mod Answers
 pub mod Sound
 pub mod Laws

@@ -1,5 +1,5 @@
 //! What the children of a node prove.
-ghost use Rattle.std.specs.Prelude.{◌≡◌, ◌∷◌, ◌++◌, [], IfOk, OnOk};
+ghost use Rattle.std.specs.Prelude.{◌≡◌, ◌∷◌, ◌++◌, [], map, IfOk, OnOk};
 ghost use Rattle.bed_deriv.specs.Checks.{have_room, states_of, with_fact, sequent};
 
 use bed_deriv::{Sequent, SymState};
@@ -36,6 +36,15 @@ fn push_known(
     out.push(Sequent { state, goal })
 }
 
+/// A list of one goal.
+pub(crate) fn one_sequent(alloc: Global, q: Sequent) -> Result<List<Sequent>, AllocError>
+    ensures { IfOk result (λ r. r ≡ q ∷ []) }
+{
+    let mut out = List::new(alloc);
+    out.push(q)?;
+    Ok(out)
+}
+
 /// One fact, in the node's own state.
 pub(crate) fn one_goal(alloc: Global, s: &SymState, p: &Pure) -> Result<List<Sequent>, AllocError>
     ensures { IfOk result (λ r. r ≡ sequent s.now p.now ∷ []) }
@@ -45,18 +54,18 @@ pub(crate) fn one_goal(alloc: Global, s: &SymState, p: &Pure) -> Result<List<Seq
     Ok(out)
 }
 
-/// Two facts, in the node's own state.
-pub(crate) fn two_goals(
+/// These facts, in the node's own state.
+pub(crate) fn goals_of(
     alloc: Global,
     s: &SymState,
-    first: &Pure,
-    second: &Pure,
+    facts: &[Pure],
 ) -> Result<List<Sequent>, AllocError>
-    ensures { IfOk result (λ r. r ≡ sequent s.now first.now ∷ sequent s.now second.now ∷ []) }
+    ensures { IfOk result (λ r. r ≡ map (sequent s.now) facts.now) }
 {
     let mut out = List::new(alloc);
-    push_goal(alloc, &mut out, s, first)?;
-    push_goal(alloc, &mut out, s, second)?;
+    for p in facts {
+        push_goal(alloc, &mut out, s, p)?;
+    }
     Ok(out)
 }
 

@@ -1,13 +1,14 @@
 //! The rules for a fact, one by one: each tests its premises in their order. The goal is None where the node
 //! stands for the rest of a condition, which no rule for a fact proves.
 ghost use Rattle.std.specs.Option.{option_copied};
-ghost use Rattle.std.specs.Prelude.{◌≡◌, ◌∷◌, [], IfOk};
+ghost use Rattle.std.specs.Prelude.{◌≡◌, ◌∷◌, ◌++◌, [], IfOk, OnOk, slice_get};
+ghost use Rattle.bed_lang.specs.SameFacts.{negation};
 ghost use Rattle.bed_deriv.specs.Checks.{first_failure, sequent, with_fact};
 ghost use Rattle.bed_deriv.specs.PureRules.{hyp, norm, order, order_goals, one_order, cut, carry, carry_goals, split, split_goals, contradiction, opposite_goal, distinct, distinct_from, apart, bound, bound_of, bound_goals, address};
 ghost use Rattle.bed_check_pure.specs.Faults.{AnswersRule, says, cut_goals};
 
 use crate::fault::Fault;
-use crate::goals::{either_known, goal_and_known, one_goal, two_goals};
+use crate::goals::{either_known, goal_and_known, goals_of, one_goal};
 use bed_deriv::arguments::{atom_at, fact_at, fact_given, number_at, numbered, word_at};
 use bed_deriv::{DArg, Sequent, SymState, negation};
 use bed_forms::{by_norm, same_facts};
@@ -26,6 +27,29 @@ fn says(alloc: Global, goal: Option<&Pure>, p: &Pure) -> Result<List<Sequent>, F
             Ok(false) => Err(Fault::Condition),
         },
     }
+}
+
+/// Whether the goal is the same as the first of these facts.
+pub(crate) fn says_first(
+    alloc: Global,
+    goal: Option<&Pure>,
+    facts: &[Pure],
+) -> Result<List<Sequent>, Fault>
+    ensures { AnswersRule result (first_failure (bound_goals (option_copied goal.entry) (slice_get facts.now 0))) }
+{
+    match facts.get(0) {
+        None => Err(Fault::Condition),
+        Some(p) => says(alloc, goal, p),
+    }
+}
+
+/// A list of one fact. A fact of its own that is alive where a call fails is dear to prove; a list isn't.
+pub(crate) fn alone(alloc: Global, p: Pure) -> Result<List<Pure>, AllocError>
+    ensures { IfOk result (λ r. r ≡ p ∷ []) }
+{
+    let mut out = List::new(alloc);
+    out.push(p)?;
+    Ok(out)
 }
 
 /// `hyp[i]`: the goal is the same as fact i.
@@ -69,13 +93,29 @@ pub(crate) fn norm(
     }
 }
 
+fn push_at_most(alloc: Global, out: &mut List<Pure>, a: &Word, b: &Word) -> Result<(), AllocError>
+    ensures { OnOk result (out.new ≡ out.old ++ Pure.AtMost a.now b.now ∷ []) }
+{
+    let p = at_most(alloc, a, b)?;
+    out.push(p)
+}
+
+// `a <= b` and `b <= a`.
+fn both_at_most(alloc: Global, a: &Word, b: &Word) -> Result<List<Pure>, AllocError>
+    ensures { IfOk result (λ r. r ≡ Pure.AtMost a.now b.now ∷ Pure.AtMost b.now a.now ∷ []) }
+{
+    let mut out = List::new(alloc);
+    push_at_most(alloc, &mut out, a, b)?;
+    push_at_most(alloc, &mut out, b, a)?;
+    Ok(out)
+}
+
 // The goals `a <= b` and `b <= a`.
 fn both_orders(alloc: Global, s: &SymState, a: &Word, b: &Word) -> Result<List<Sequent>, AllocError>
     ensures { IfOk result (λ r. r ≡ sequent s.now (Pure.AtMost a.now b.now) ∷ sequent s.now (Pure.AtMost b.now a.now) ∷ []) }
 {
-    let first = at_most(alloc, a, b)?;
-    let second = at_most(alloc, b, a)?;
-    two_goals(alloc, s, &first, &second)
+    let facts = both_at_most(alloc, a, b)?;
+    goals_of(alloc, s, facts.as_slice())
 }
 
 fn at_most(alloc: Global, a: &Word, b: &Word) -> Result<Pure, AllocError>
@@ -105,11 +145,11 @@ fn one_order(alloc: Global, k: u32, a: &Word, b: &Word) -> Result<Pure, AllocErr
     }
 }
 
-// A fact to be proved.
-fn goal_alone(alloc: Global, s: &SymState, p: Pure) -> Result<List<Sequent>, AllocError>
-    ensures { IfOk result (λ r. r ≡ sequent s.now p ∷ []) }
+fn one_order_alone(alloc: Global, k: u32, a: &Word, b: &Word) -> Result<List<Pure>, AllocError>
+    ensures { IfOk result (λ r. r ≡ one_order k a.now b.now ∷ []) }
 {
-    one_goal(alloc, s, &p)
+    let p = one_order(alloc, k, a, b)?;
+    alone(alloc, p)
 }
 
 // One of the orders, which makes an inequality.
@@ -122,8 +162,8 @@ fn one_order_goal(
 ) -> Result<List<Sequent>, AllocError>
     ensures { IfOk result (λ r. r ≡ sequent s.now (one_order k a.now b.now) ∷ []) }
 {
-    let p = one_order(alloc, k, a, b)?;
-    goal_alone(alloc, s, p)
+    let facts = one_order_alone(alloc, k, a, b)?;
+    goals_of(alloc, s, facts.as_slice())
 }
 
 // The goals that `order[k]` leaves for an inequality.
@@ -327,17 +367,18 @@ pub(crate) fn carry(
     }
 }
 
-// The goal with a fact, and with another.
-fn both_known(
-    alloc: Global,
-    s: &SymState,
-    first: &Pure,
-    second: Pure,
-    goal: &Pure,
-) -> Result<List<Sequent>, AllocError>
-    ensures { IfOk result (λ r. r ≡ sequent (with_fact s.now first.now) goal.now ∷ sequent (with_fact s.now second) goal.now ∷ []) }
+/// The negation of a fact, if it has one, as the one item of a list.
+///
+/// # Errors
+/// `AllocError` for want of memory.
+pub fn negated(alloc: Global, p: &Pure) -> Result<List<Pure>, AllocError>
+    ensures { IfOk result (λ r. slice_get r 0 ≡ negation p.now) }
 {
-    either_known(alloc, s, first, &second, goal)
+    match negation(alloc, p) {
+        Err(e) => Err(e),
+        Ok(None) => Ok(List::new(alloc)),
+        Ok(Some(other)) => alone(alloc, other),
+    }
 }
 
 // What `split` leaves, by the negation of its fact.
@@ -346,15 +387,15 @@ fn split_goals(
     s: &SymState,
     goal: Option<&Pure>,
     p: &Pure,
-    other: Option<Pure>,
+    others: &[Pure],
 ) -> Result<List<Sequent>, Fault>
-    ensures { AnswersRule result (first_failure (split_goals s.now (option_copied goal.entry) p.now other)) }
+    ensures { AnswersRule result (first_failure (split_goals s.now (option_copied goal.entry) p.now (slice_get others.now 0))) }
 {
-    match other {
+    match others.get(0) {
         None => Err(Fault::Condition),
         Some(other) => match goal {
             None => Err(Fault::Condition),
-            Some(g) => match both_known(alloc, s, p, other, g) {
+            Some(g) => match either_known(alloc, s, p, other, g) {
                 Ok(goals) => Ok(goals),
                 Err(_) => Err(Fault::Memory),
             },
@@ -377,9 +418,9 @@ pub(crate) fn split(
     }
     match fact_given(s, args, 0) {
         None => Err(Fault::Argument),
-        Some(p) => match negation(alloc, p) {
+        Some(p) => match negated(alloc, p) {
             Err(_) => Err(Fault::Memory),
-            Ok(other) => split_goals(alloc, s, goal, p, other),
+            Ok(others) => split_goals(alloc, s, goal, p, others.as_slice()),
         },
     }
 }
@@ -389,15 +430,15 @@ fn opposite_goal(
     alloc: Global,
     s: &SymState,
     goal: Option<&Pure>,
-    other: Option<Pure>,
+    others: &[Pure],
 ) -> Result<List<Sequent>, Fault>
-    ensures { AnswersRule result (first_failure (opposite_goal s.now (option_copied goal.entry) other)) }
+    ensures { AnswersRule result (first_failure (opposite_goal s.now (option_copied goal.entry) (slice_get others.now 0))) }
 {
-    match other {
+    match others.get(0) {
         None => Err(Fault::Condition),
         Some(other) => match goal {
             None => Err(Fault::Condition),
-            Some(_) => match goal_alone(alloc, s, other) {
+            Some(_) => match one_goal(alloc, s, other) {
                 Ok(goals) => Ok(goals),
                 Err(_) => Err(Fault::Memory),
             },
@@ -420,9 +461,9 @@ pub(crate) fn contradiction(
     }
     match fact_at(s, args, 0) {
         None => Err(Fault::Argument),
-        Some(p) => match negation(alloc, p) {
+        Some(p) => match negated(alloc, p) {
             Err(_) => Err(Fault::Memory),
-            Ok(other) => opposite_goal(alloc, s, goal, other),
+            Ok(others) => opposite_goal(alloc, s, goal, others.as_slice()),
         },
     }
 }
@@ -446,6 +487,13 @@ fn unequal(alloc: Global, a: &Word, b: &Word) -> Result<Pure, AllocError>
     Ok(Pure::Unequal(a, b))
 }
 
+fn unequal_alone(alloc: Global, a: &Word, b: &Word) -> Result<List<Pure>, AllocError>
+    ensures { IfOk result (λ r. r ≡ Pure.Unequal a.now b.now ∷ []) }
+{
+    let p = unequal(alloc, a, b)?;
+    alone(alloc, p)
+}
+
 // Whether the goal is that these two words differ.
 fn says_apart(
     alloc: Global,
@@ -455,9 +503,9 @@ fn says_apart(
 ) -> Result<List<Sequent>, Fault>
     ensures { AnswersRule result (first_failure (says (option_copied goal.entry) (Pure.Unequal a.now b.now))) }
 {
-    match unequal(alloc, a, b) {
+    match unequal_alone(alloc, a, b) {
         Err(_) => Err(Fault::Memory),
-        Ok(p) => says(alloc, goal, &p),
+        Ok(facts) => says_first(alloc, goal, facts.as_slice()),
     }
 }
 
@@ -522,28 +570,21 @@ pub(crate) fn distinct(
     }
 }
 
-// What is at most what, because of an atom.
-fn bound_of(alloc: Global, x: &Atom) -> Result<Option<Pure>, AllocError>
-    ensures { IfOk result (λ r. r ≡ bound_of x.now) }
+fn at_most_number(alloc: Global, a: &Word, most: u32) -> Result<List<Pure>, AllocError>
+    ensures { IfOk result (λ r. r ≡ Pure.AtMost a.now (Word.Number most) ∷ []) }
 {
-    match x {
-        Atom::Cell(a, _) => Ok(Some(Pure::AtMost(a.copy(alloc)?, Word::Number(4_294_967_292)))),
-        Atom::Byte(_, v) => Ok(Some(Pure::AtMost(v.copy(alloc)?, Word::Number(255)))),
-        _ => Ok(None),
-    }
+    let a = a.copy(alloc)?;
+    alone(alloc, Pure::AtMost(a, Word::Number(most)))
 }
 
-// Whether the goal is what a bound says.
-fn bound_goals(
-    alloc: Global,
-    goal: Option<&Pure>,
-    limit: Option<Pure>,
-) -> Result<List<Sequent>, Fault>
-    ensures { AnswersRule result (first_failure (bound_goals (option_copied goal.entry) limit)) }
+// What is at most what, because of an atom, as the one item of a list.
+fn bound_of(alloc: Global, x: &Atom) -> Result<List<Pure>, AllocError>
+    ensures { IfOk result (λ r. slice_get r 0 ≡ bound_of x.now) }
 {
-    match limit {
-        None => Err(Fault::Condition),
-        Some(p) => says(alloc, goal, &p),
+    match x {
+        Atom::Cell(a, _) => at_most_number(alloc, a, 4_294_967_292),
+        Atom::Byte(_, v) => at_most_number(alloc, v, 255),
+        _ => Ok(List::new(alloc)),
     }
 }
 
@@ -564,7 +605,7 @@ pub(crate) fn bound(
         None => Err(Fault::Argument),
         Some(x) => match bound_of(alloc, x) {
             Err(_) => Err(Fault::Memory),
-            Ok(limit) => bound_goals(alloc, goal, limit),
+            Ok(facts) => says_first(alloc, goal, facts.as_slice()),
         },
     }
 }

@@ -1,8 +1,9 @@
 //! Nodes for the rest of a condition, each with its answer.
-use crate::trees::{declarations, facts, tree, word};
+use crate::declared::declarations;
+use crate::trees::{made, tree};
 use bed_check_heap::{Verdict, heap_step};
 use bed_deriv::{Deriv, SymState};
-use bed_lang::{Atom, Box, Decls, List, Word};
+use bed_lang::{Arg, Atom, Decls, List, Word};
 use std::alloc::{AllocError, Global};
 use std::test::Fail;
 
@@ -10,93 +11,157 @@ use std::test::Fail;
 /// and the facts, atoms and next fresh variable of the first.
 type Answer = (u32, u8, usize, usize, usize, u32);
 
-/// Trees with their answers in a state whose next fresh variable is 9, with the facts `x < y`, `y <= x`
-/// and `nil == nil` and the atoms `p |-> 1`, `q |->b w`, `block(r, 2)`, `block(r + 8, 3)`, `block(t, 1)`
-/// and `block(u, 0)`.
-const NODES: [(&str, Answer); 41] = [
-    ("1H0N0fL2", (0, 0, 1, 4, 6, 9)),
-    ("1H0fL1", (1, 1, 0, 0, 0, 0)),
-    ("1H0N0eL2", (1, 2, 0, 0, 0, 0)),
-    ("2H0N0fL2", (2, 3, 0, 0, 0, 0)),
-    ("N0N0fW2", (0, 0, 2, 4, 6, 9)),
-    ("N0fW1", (1, 1, 0, 0, 0, 0)),
-    ("N0N0eW2", (1, 2, 0, 0, 0, 0)),
-    ("N0N0sW2", (1, 3, 0, 0, 0, 0)),
-    ("1H02A1E1", (0, 0, 0, 0, 0, 0)),
-    ("E0", (1, 1, 0, 0, 0, 0)),
-    ("N0E1", (2, 3, 0, 0, 0, 0)),
-    ("N0N031V2", (0, 0, 1, 3, 7, 9)),
-    ("N0N03V2", (1, 1, 0, 0, 0, 0)),
-    ("N0N091V2", (1, 2, 0, 0, 0, 0)),
-    ("N0N03fV2", (1, 2, 0, 0, 0, 0)),
-    ("N0N03gV2", (1, 2, 0, 0, 0, 0)),
-    ("N0N011V2", (1, 3, 0, 0, 0, 0)),
-    ("N0N033V2", (2, 3, 0, 0, 0, 0)),
-    ("N0N034M2", (0, 0, 1, 3, 5, 9)),
-    ("N0N03M2", (1, 1, 0, 0, 0, 0)),
-    ("N0N039M2", (1, 2, 0, 0, 0, 0)),
-    ("N0N033M2", (1, 3, 0, 0, 0, 0)),
-    ("N0N031M2", (1, 3, 0, 0, 0, 0)),
-    ("N0N043M2", (2, 3, 0, 0, 0, 0)),
-    ("P0", (1, 1, 0, 0, 0, 0)),
-    ("N061P1", (1, 2, 0, 0, 0, 0)),
-    ("N011P1", (0, 0, 1, 4, 9, 13)),
-    ("N01P1", (1, 1, 0, 0, 0, 0)),
-    ("N019P1", (1, 2, 0, 0, 0, 0)),
-    ("N012P1", (1, 3, 0, 0, 0, 0)),
-    ("N0N035P2", (0, 0, 1, 3, 6, 10)),
-    ("N0N033P2", (2, 3, 0, 0, 0, 0)),
-    ("N041P1", (0, 0, 1, 3, 6, 9)),
-    ("N043P1", (1, 3, 0, 0, 0, 0)),
-    ("N0N056P2", (0, 0, 1, 3, 5, 9)),
-    ("N0N055P2", (2, 3, 0, 0, 0, 0)),
-    ("N0N0N0N0N021234P5", (1, 3, 0, 0, 0, 0)),
-    ("X0", (1, 3, 0, 0, 0, 0)),
-    ("U0", (1, 3, 0, 0, 0, 0)),
-    ("H0", (1, 1, 0, 0, 0, 0)),
-    ("1H0", (1, 3, 0, 0, 0, 0)),
+/// A state whose next fresh variable is 9, with the facts `x < y`, `y <= x` and `nil == nil` and the atoms
+/// `p |-> 1`, `q |->b w`, `block(r, 2)`, `block(r + 8, 3)`, `block(t, 1)`, `block(u, 0)`, `lseg(a, b, s)`,
+/// `lseg(b, c, t)` and `d(y)`.
+const STATE: &str = "xy< yx{ [[~ p1> qw_ r2] r8+3] t1] u0] abS* bcT* y)";
+
+/// Trees with their answers there.
+const NODES: [(&str, Answer); 62] = [
+    ("1,/H0 /N0 xy<|/K2", (0, 0, 1, 4, 9, 9)),
+    ("1,/H0 xy<|/K1", (1, 1, 0, 0, 0, 0)),
+    ("1,/H0 /N0 x,/K2", (1, 2, 0, 0, 0, 0)),
+    ("2,/H0 /N0 xy<|/K2", (2, 3, 0, 0, 0, 0)),
+    ("/N0/N0 xy<|/W2", (0, 0, 2, 4, 9, 9)),
+    ("/N0 xy<|/W1", (1, 1, 0, 0, 0, 0)),
+    ("/N0/N0 x,/W2", (1, 2, 0, 0, 0, 0)),
+    ("/N0/N0 ST~|/W2", (1, 3, 0, 0, 0, 0)),
+    ("1,/H0 2,/A1 /E1", (0, 0, 0, 0, 0, 0)),
+    ("/E0", (1, 1, 0, 0, 0, 0)),
+    ("/N0 /E1", (2, 3, 0, 0, 0, 0)),
+    ("/N0/N0 7,/U2", (0, 0, 2, 5, 8, 9)),
+    ("/N0 9,/U1", (0, 0, 1, 3, 9, 9)),
+    ("/N0/N0 7,7,/U2", (1, 1, 0, 0, 0, 0)),
+    ("/N0 7,/U1", (1, 1, 0, 0, 0, 0)),
+    ("/N0/N0 0,/U2", (1, 2, 0, 0, 0, 0)),
+    ("/N0/N0 1,/U2", (1, 3, 0, 0, 0, 0)),
+    ("/N0/N0/N0 \"1,x,x,[^/F3", (0, 0, 1, 3, 10, 9)),
+    ("/N0/N0/N0 \"1,x,y,[^/F3", (2, 3, 0, 0, 0, 0)),
+    ("/N0/N0 \"1,x,x,[^/F2", (1, 1, 0, 0, 0, 0)),
+    ("/N0/N0/N0 \"1,x,[^/F3", (1, 1, 0, 0, 0, 0)),
+    ("/N0/N0/N0 \"1,x,%,[^/F3", (1, 2, 0, 0, 0, 0)),
+    ("/N0/N0/N0 \"3,x,x,[^/F3", (1, 2, 0, 0, 0, 0)),
+    ("/N0/N0/N0 1,1,x,x,[^/F3", (1, 2, 0, 0, 0, 0)),
+    ("/N0/N0 7,8,/J2", (0, 0, 1, 3, 8, 9)),
+    ("/N0/N0 7,/J2", (1, 1, 0, 0, 0, 0)),
+    ("/N0/N0 7,0,/J2", (1, 2, 0, 0, 0, 0)),
+    ("/N0/N0 7,7,/J2", (1, 3, 0, 0, 0, 0)),
+    ("/N0/N0 7,9,/J2", (1, 3, 0, 0, 0, 0)),
+    ("/N0/N0 8,7,/J2", (2, 3, 0, 0, 0, 0)),
+    ("/N0/N0 3,1,/V2", (0, 0, 1, 3, 10, 9)),
+    ("/N0/N0 3,/V2", (1, 1, 0, 0, 0, 0)),
+    ("/N0/N0 0,1,/V2", (1, 2, 0, 0, 0, 0)),
+    ("/N0/N0 3,xy<|/V2", (1, 2, 0, 0, 0, 0)),
+    ("/N0/N0 3,%,/V2", (1, 2, 0, 0, 0, 0)),
+    ("/N0/N0 1,1,/V2", (1, 3, 0, 0, 0, 0)),
+    ("/N0/N0 3,3,/V2", (2, 3, 0, 0, 0, 0)),
+    ("/N0/N0 3,4,/M2", (0, 0, 1, 3, 8, 9)),
+    ("/N0/N0 3,/M2", (1, 1, 0, 0, 0, 0)),
+    ("/N0/N0 3,0,/M2", (1, 2, 0, 0, 0, 0)),
+    ("/N0/N0 3,3,/M2", (1, 3, 0, 0, 0, 0)),
+    ("/N0/N0 3,1,/M2", (1, 3, 0, 0, 0, 0)),
+    ("/N0/N0 4,3,/M2", (2, 3, 0, 0, 0, 0)),
+    ("/P0", (1, 1, 0, 0, 0, 0)),
+    ("/N0 6,1,/P1", (1, 2, 0, 0, 0, 0)),
+    ("/N0 1,1,/P1", (0, 0, 1, 4, 12, 13)),
+    ("/N0 1,/P1", (1, 1, 0, 0, 0, 0)),
+    ("/N0 1,0,/P1", (1, 2, 0, 0, 0, 0)),
+    ("/N0 1,2,/P1", (1, 3, 0, 0, 0, 0)),
+    ("/N0/N0 3,5,/P2", (0, 0, 1, 3, 9, 10)),
+    ("/N0/N0 3,3,/P2", (2, 3, 0, 0, 0, 0)),
+    ("/N0 4,1,/P1", (0, 0, 1, 3, 9, 9)),
+    ("/N0 4,3,/P1", (1, 3, 0, 0, 0, 0)),
+    ("/N0/N0 5,6,/P2", (0, 0, 1, 3, 8, 9)),
+    ("/N0/N0 5,5,/P2", (2, 3, 0, 0, 0, 0)),
+    ("/N0/N0/N0/N0/N0 2,1,2,3,4,/P5", (1, 3, 0, 0, 0, 0)),
+    ("/H0", (1, 1, 0, 0, 0, 0)),
+    ("1,/H0", (1, 3, 0, 0, 0, 0)),
+    ("1:F/C0", (1, 3, 0, 0, 0, 0)),
+    ("0:F/C0", (1, 2, 0, 0, 0, 0)),
+    ("/g0", (1, 3, 0, 0, 0, 0)),
+    ("/f0", (1, 3, 0, 0, 0, 0)),
+];
+
+/// A state with the fact `p != 0` and the atoms `p |-> 1`, `p + 4 |-> a` and `lseg(a, b, s)`.
+const CELLS: &str = "p0# p1> p4+a> abS*";
+
+/// Trees with their answers there: a longer segment, which has to begin at an address that isn't 0.
+const FOLDS: [(&str, Answer); 8] = [
+    (
+        "1,/H0 /N0/N0/N0/N0/N0/N0/N0/N0/N0 \"2,p,b,1S;^ 1,a,S^ 1,2,3,/F:",
+        (0, 0, 1, 1, 1, 9),
+    ),
+    (
+        "/N0 /N0/N0/N0/N0/N0/N0/N0/N0/N0 \"2,p,b,1S;^ 1,a,S^ 1,2,3,/F:",
+        (2, 3, 0, 0, 0, 0),
+    ),
+    (
+        "1,/H0 /N0/N0/N0/N0/N0/N0/N0/N0/N0 \"2,p,b,1S;^ 2,a,S^ 1,2,3,/F:",
+        (3, 3, 0, 0, 0, 0),
+    ),
+    (
+        "1,/H0 /N0/N0/N0/N0/N0/N0/N0/N0/N0 \"2,p,b,1S;^ 1S;^ a,S^ 1,2,3,/F:",
+        (1, 2, 0, 0, 0, 0),
+    ),
+    (
+        "1,/H0 /N0/N0/N0/N0/N0/N0/N0/N0/N0 \"2,p,b,1S;^ 1,a,S^ 1,2,9,/F:",
+        (1, 2, 0, 0, 0, 0),
+    ),
+    (
+        "1,/H0 /N0/N0/N0/N0/N0/N0/N0/N0/N0 \"2,p,b,1S;^ 1,a,S^ 1,1,3,/F:",
+        (1, 3, 0, 0, 0, 0),
+    ),
+    (
+        "1,/H0 /N0/N0/N0/N0/N0/N0/N0/N0/N0 \"2,p,b,1S;^ 1,a,S^ 1,3,2,/F:",
+        (1, 3, 0, 0, 0, 0),
+    ),
+    (
+        "1,/H0 /N0/N0/N0/N0/N0/N0/N0/N0/N0 \"2,p,b,1S;^ 1,a,S^ 1,2,/F:",
+        (1, 1, 0, 0, 0, 0),
+    ),
 ];
 
 /// The same in a state with four bytes alone, the first at this address and the others behind it.
 const BYTES: [(u32, &str, Answer); 5] = [
-    (4_294_967_292, "N0N0N0N0N021234P5", (0, 0, 1, 0, 1, 9)),
-    (4_294_967_293, "N0N0N0N0N021234P5", (2, 3, 0, 0, 0, 0)),
-    (4_294_967_292, "N0N0N0N0N02123P5", (1, 1, 0, 0, 0, 0)),
-    (4_294_967_292, "N0N0N0N0N021239P5", (1, 2, 0, 0, 0, 0)),
-    (4_294_967_292, "N0N0N0N0N021134P5", (1, 3, 0, 0, 0, 0)),
+    (
+        4_294_967_292,
+        "/N0/N0/N0/N0/N0 2,1,2,3,4,/P5",
+        (0, 0, 1, 0, 1, 9),
+    ),
+    (
+        4_294_967_293,
+        "/N0/N0/N0/N0/N0 2,1,2,3,4,/P5",
+        (2, 3, 0, 0, 0, 0),
+    ),
+    (
+        4_294_967_292,
+        "/N0/N0/N0/N0/N0 2,1,2,3,/P5",
+        (1, 1, 0, 0, 0, 0),
+    ),
+    (
+        4_294_967_292,
+        "/N0/N0/N0/N0/N0 2,1,2,3,9,/P5",
+        (1, 2, 0, 0, 0, 0),
+    ),
+    (
+        4_294_967_292,
+        "/N0/N0/N0/N0/N0 2,1,1,3,4,/P5",
+        (1, 3, 0, 0, 0, 0),
+    ),
 ];
 
-fn block(alloc: Global, at: u8, words: u32) -> Result<Atom, AllocError> {
-    Ok(Atom::Block(word(alloc, at)?, Word::Number(words)))
-}
-
-// block(r + 8, 3)
-fn second_block(alloc: Global) -> Result<Atom, AllocError> {
-    let start = Box::new(alloc, word(alloc, b'r')?)?;
-    let end = Word::Add(start, Box::new(alloc, Word::Number(8))?);
-    Ok(Atom::Block(end, Word::Number(3)))
-}
-
-fn atoms(alloc: Global) -> Result<List<Atom>, AllocError> {
-    let mut atoms = List::new(alloc);
-    atoms.push(Atom::Cell(word(alloc, b'p')?, Word::Number(1)))?;
-    atoms.push(Atom::Byte(word(alloc, b'q')?, word(alloc, b'w')?))?;
-    atoms.push(block(alloc, b'r', 2)?)?;
-    atoms.push(second_block(alloc)?)?;
-    atoms.push(block(alloc, b't', 1)?)?;
-    atoms.push(block(alloc, b'u', 0)?)?;
-    Ok(atoms)
-}
-
-pub(crate) fn state(alloc: Global) -> Result<SymState, AllocError> {
-    let facts = facts(alloc)?;
-    let atoms = atoms(alloc)?;
+fn state_of(alloc: Global, text: &str) -> Result<SymState, Fail> {
+    let made = made(alloc, text)?;
     Ok(SymState {
         locals: List::new(alloc),
-        facts,
-        atoms,
+        facts: made.facts,
+        atoms: made.atoms,
         next: 9,
     })
+}
+
+pub(crate) fn state(alloc: Global) -> Result<SymState, Fail> {
+    state_of(alloc, STATE)
 }
 
 fn bytes(alloc: Global, address: u32) -> Result<SymState, AllocError> {
@@ -138,12 +203,12 @@ fn verdict(alloc: Global, decls: &Decls, state: &SymState, tree: &Deriv) -> Resu
 }
 
 fn in_state(alloc: Global, state: &SymState, tree: &Deriv) -> Result<Answer, Fail> {
-    let decls = declarations(alloc);
+    let decls = declarations(alloc)?;
     verdict(alloc, &decls, state, tree)
 }
 
-fn of_tree(alloc: Global, tree: &Deriv) -> Result<Answer, Fail> {
-    let state = state(alloc)?;
+fn of_tree(alloc: Global, state: &str, tree: &Deriv) -> Result<Answer, Fail> {
+    let state = state_of(alloc, state)?;
     in_state(alloc, &state, tree)
 }
 
@@ -152,13 +217,13 @@ fn of_bytes(alloc: Global, address: u32, tree: &Deriv) -> Result<Answer, Fail> {
     in_state(alloc, &state, tree)
 }
 
-fn answer(alloc: Global, text: &str) -> Result<Answer, Fail> {
-    let tree = tree(alloc, text.as_bytes())?;
-    of_tree(alloc, &tree)
+fn answer(alloc: Global, state: &str, text: &str) -> Result<Answer, Fail> {
+    let tree = tree(alloc, text)?;
+    of_tree(alloc, state, &tree)
 }
 
 fn bytes_answer(alloc: Global, address: u32, text: &str) -> Result<Answer, Fail> {
-    let tree = tree(alloc, text.as_bytes())?;
+    let tree = tree(alloc, text)?;
     of_bytes(alloc, address, &tree)
 }
 
@@ -166,7 +231,10 @@ fn bytes_answer(alloc: Global, address: u32, text: &str) -> Result<Answer, Fail>
 fn states_are_left_or_a_node_is_refused(rt: HostRuntime) -> Result<(), Fail> {
     let alloc = rt.alloc();
     for (text, wanted) in &NODES {
-        assert!(rt; answer(alloc, text)? == *wanted, "{text}");
+        assert!(rt; answer(alloc, STATE, text)? == *wanted, "{text}");
+    }
+    for (text, wanted) in &FOLDS {
+        assert!(rt; answer(alloc, CELLS, text)? == *wanted, "{text}");
     }
     Ok(())
 }
@@ -177,5 +245,50 @@ fn bytes_are_a_cell_or_refused(rt: HostRuntime) -> Result<(), Fail> {
     for (address, text, wanted) in &BYTES {
         assert!(rt; bytes_answer(alloc, *address, text)? == *wanted, "{text}");
     }
+    Ok(())
+}
+
+// The state with the first atom unfolded.
+fn unfolded(
+    alloc: Global,
+    decls: &Decls,
+    state: &SymState,
+    tree: &Deriv,
+) -> Result<SymState, Fail> {
+    match heap_step(alloc, decls, state, tree) {
+        Ok(mut states) => Ok(states.pop().ok_or("a state")?),
+        Err(_) => Err(Fail::from("an unfold")),
+    }
+}
+
+fn unfolded_often(alloc: Global, decls: &Decls, tree: &Deriv) -> Result<SymState, Fail> {
+    let mut state = state_of(alloc, "y)")?;
+    for _ in 0..40 {
+        state = unfolded(alloc, decls, &state, tree)?;
+    }
+    Ok(state)
+}
+
+fn forty_times(alloc: Global) -> Result<SymState, Fail> {
+    let decls = declarations(alloc)?;
+    let tree = tree(alloc, "/N0 1,/U1")?;
+    unfolded_often(alloc, &decls, &tree)
+}
+
+// Whether the state is `d(0)`, as 2^40 times a word is 0.
+fn is_zero(state: &SymState) -> bool {
+    match state.atoms.as_slice() {
+        [Atom::Pred(_, args)] => match args.as_slice() {
+            [Arg::Word(_, Word::Number(0))] => true,
+            _ => false,
+        },
+        _ => false,
+    }
+}
+
+#[test]
+fn a_doubled_argument_stays_small(rt: HostRuntime) -> Result<(), Fail> {
+    let state = forty_times(rt.alloc())?;
+    assert!(rt; is_zero(&state));
     Ok(())
 }

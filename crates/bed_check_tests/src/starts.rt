@@ -2,7 +2,7 @@
 ghost use Rattle.std.specs.Prelude.{◌≡◌, ◌<◌, ◌≤◌, true, length, IsTrue};
 ghost use Rattle.bed_deriv.specs.Fresh.{AreUnfresh, every, known_term, unfresh_condition, condition_size};
 
-use crate::trees::{at_most, name, word};
+use crate::trees::{name, variable};
 use bed_deriv::known::{known_fact, known_word};
 use bed_deriv::{SymState, start};
 use bed_lang::{
@@ -65,9 +65,15 @@ fn declarations(alloc: Global) -> Result<Decls, AllocError> {
     })
 }
 
+fn at_most(alloc: Global, a: u8, b: u8) -> Result<Pure, AllocError> {
+    let a = variable(alloc, a)?;
+    let b = variable(alloc, b)?;
+    Ok(Pure::AtMost(a, b))
+}
+
 // n |-> v
 fn cell(alloc: Global) -> Result<Atom, AllocError> {
-    Ok(Atom::Cell(word(alloc, b'n')?, word(alloc, b'v')?))
+    Ok(Atom::Cell(variable(alloc, b'n')?, variable(alloc, b'v')?))
 }
 
 // [i <= n] * n |-> v * [v <= i]

@@ -1,4 +1,4 @@
-use Rattle.bed_check_pure.proofs.BuiltLaws.{accepted_follows}
+use Rattle.bed_check_pure.proofs.AcceptedLaws.{accepted_follows}
 use Rattle.bed_check_pure.proofs.check.check_pure.Goals as goal
 
 pub returns-clause-sound : goal.returns-clause-sound

@@ -1,0 +1,18 @@
+use Rattle.std.proofs.Common.{ℕ, List, Result, sym, subst}
+use Rattle.bed_lang.specs.declared.logic.Atom.{Atom}
+use Rattle.bed_deriv.specs.declared.rest.Onward.{Onward}
+use Rattle.bed_deriv.specs.Checks.{first_failure}
+use Rattle.bed_deriv.specs.Steps.{met}
+use Rattle.bed_check_cond.specs.Points.{rest_of, ended, AnswersStep}
+use Rattle.bed_check_cond.specs.Parts.{end_found}
+use Rattle.bed_check_cond.proofs.EndLemmas.{end_valued}
+use Rattle.bed_check_cond.proofs.ends.meets.Goals as goal
+
+pub returns : goal.returns
+returns c =
+    subst (λ (r : Result Onward ℕ). AnswersStep ended c.met_found.result r)
+    (sym (end_valued (rest_of c.args.at.now) c.args.args.now c.args.n (met c.args.at.now.state c.args.assertion.now) c.in_ok-bs.bs c.in_ok-bs.cs c.in_ok-bs.ensures))
+    (
+    subst (λ (xs : List (ℕ × Atom)). AnswersStep ended c.met_found.result (first_failure (end_found (rest_of c.args.at.now) (met c.args.at.now.state c.args.assertion.now) c.in_ok-bs.bs xs)))
+    c.as_slice.ensures c.met_found.ensures
+    )
