@@ -1,5 +1,5 @@
 -- A node of fold that has as many arguments as it takes has those of the parameters and the binders.
-use Rattle.std.proofs.Common.{◌≡◌, ◌≤◌, ℕ, ◌+◌, Bool, true, ◌==◌, List, length, arith}
+use Rattle.std.proofs.Common.{◌≡◌, ◌≤◌, ℕ, ◌+◌, true, ◌==◌, List, length, arith}
 use Rattle.std.proofs.lemmas.Bool.{and_parts}
 use Rattle.bed_lang.specs.declared.logic.Assertion.{Assertion}
 use Rattle.bed_lang.specs.declared.module.Predicate.{Predicate}

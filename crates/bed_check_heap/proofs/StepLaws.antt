@@ -20,7 +20,7 @@ use Rattle.bed_check_pure.specs.States.{StateHolds, AreTrueFacts, AreTrueAtoms, 
 use Rattle.bed_check_pure.specs.Answers.{goal_table}
 use Rattle.bed_check_pure.proofs.WalkLaws.{trees_true}
 use Rattle.bed_check_heap.specs.Steps.{state_table, stepped}
-use Rattle.bed_deriv.specs.Nodes.{sequents, where_walked, children_walked, after_rule}
+use Rattle.bed_deriv.specs.Nodes.{where_walked, children_walked, after_rule}
 use Rattle.bed_check_heap.specs.Instances.{matched}
 use Rattle.bed_deriv.specs.Instances.{Matched, match_terms, after_match}
 use Rattle.bed_check_heap.specs.Sound.{atoms_numbered, SomeHolds, Leads, Meets}
