@@ -1,5 +1,5 @@
 //! What a match of terms with chosen atoms leaves to prove.
-ghost use Rattle.std.specs.Prelude.{◌≡◌, ◌∷◌, [], List, nat_le, IfOk};
+ghost use Rattle.std.specs.Prelude.{◌≡◌, ◌∷◌, ◌++◌, [], List, nat_le, IfOk, OnOk};
 ghost use Rattle.std.specs.Option.{option_copied};
 ghost use Rattle.bed_lang.specs.declared.logic.Term.{Term};
 ghost use Rattle.bed_deriv.specs.Matches.{count_of_goals, count_of_atoms, atom_goals, term_goals, term_atoms, arg_goal, arg_equations, atom_equations, match_goals};
@@ -8,14 +8,32 @@ ghost use Rattle.bed_deriv.specs.Matching.{prefixed, continued, AppendedIf};
 use bed_lang::{Arg, Atom, List, Pure, Term, Word};
 use std::alloc::{AllocError, Global};
 
+fn equal(alloc: Global, a: &Word, b: &Word) -> Result<Pure, AllocError>
+    ensures { IfOk result (λ r. r ≡ Pure.Equal a.now b.now) }
+{
+    let a = a.copy(alloc)?;
+    let b = b.copy(alloc)?;
+    Ok(Pure::Equal(a, b))
+}
+
+fn push_equal(
+    alloc: Global,
+    out: &mut List<Pure>,
+    a: &Word,
+    b: &Word,
+) -> Result<(), AllocError>
+    ensures { OnOk result (out.new ≡ out.old ++ Pure.Equal a.now b.now ∷ []) }
+{
+    let goal = equal(alloc, a, b)?;
+    out.push(goal)
+}
+
 // That two arguments of one sort are equal.
 fn arg_goal(alloc: Global, a: &Arg, b: &Arg) -> Result<Option<Pure>, AllocError>
     ensures { IfOk result (λ r. r ≡ arg_goal a.now b.now) }
 {
     match (a, b) {
-        (Arg::Word(_, a), Arg::Word(_, b)) => {
-            Ok(Some(Pure::Equal(a.copy(alloc)?, b.copy(alloc)?)))
-        }
+        (Arg::Word(_, a), Arg::Word(_, b)) => Ok(Some(equal(alloc, a, b)?)),
         (Arg::Seq(_, s), Arg::Seq(_, t)) => Ok(Some(Pure::Same(s.copy(alloc)?, t.copy(alloc)?))),
         _ => Ok(None),
     }
@@ -62,8 +80,8 @@ fn two_equations(
     ensures { IfOk result (λ r. r ≡ Pure.Equal a.now b.now ∷ Pure.Equal v.now w.now ∷ []) }
 {
     let mut out = List::new(alloc);
-    out.push(Pure::Equal(a.copy(alloc)?, b.copy(alloc)?))?;
-    out.push(Pure::Equal(v.copy(alloc)?, w.copy(alloc)?))?;
+    push_equal(alloc, &mut out, a, b)?;
+    push_equal(alloc, &mut out, v, w)?;
     Ok(out)
 }
 

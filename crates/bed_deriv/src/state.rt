@@ -1,5 +1,5 @@
 //! States: what is known at a point of a path.
-ghost use Rattle.std.specs.Prelude.{◌≡◌, IfOk};
+ghost use Rattle.std.specs.Prelude.{◌≡◌, ◌∷◌, ◌++◌, [], IfOk};
 ghost use Rattle.bed_deriv.specs.Checks.{has_room, with_fact};
 
 use bed_lang::{Atom, List, Name, Pure, Tree, Word};
@@ -68,8 +68,25 @@ impl SymState {
     pub fn with_fact(&self, alloc: Global, fact: Pure) -> Result<SymState, AllocError>
         ensures { IfOk result (λ r. r ≡ with_fact self.now fact) }
     {
+        let last = alone(alloc, fact)?;
+        self.with_last(alloc, last)
+    }
+
+    // The state with these facts behind its own.
+    fn with_last(&self, alloc: Global, last: List<Pure>) -> Result<SymState, AllocError>
+        ensures { IfOk result (λ r. r ≡ record self.now { facts = self.now.facts ++ last }) }
+    {
         let mut state = self.copy(alloc)?;
-        state.facts.push(fact)?;
+        state.facts.append(last)?;
         Ok(state)
     }
+}
+
+// A list of one fact. (A fact of its own that is alive where a call fails is dear to prove; a list isn't.)
+fn alone(alloc: Global, fact: Pure) -> Result<List<Pure>, AllocError>
+    ensures { IfOk result (λ r. r ≡ fact ∷ []) }
+{
+    let mut one = List::new(alloc);
+    one.push(fact)?;
+    Ok(one)
 }

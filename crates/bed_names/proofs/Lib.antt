@@ -7,5 +7,5 @@ mod ScopeLemmas
 mod ScopedLemmas
 pub mod SkeletonLaws
 mod StatementLemmas
-mod TableLemmas
+pub mod TableLaws
 mod TermLemmas

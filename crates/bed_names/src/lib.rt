@@ -23,3 +23,4 @@ mod visible;
 
 pub use error::NameError;
 pub use scoped::{Scoped, scope};
+pub use table::Table;

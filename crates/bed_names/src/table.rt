@@ -7,9 +7,10 @@ use indexmap::IndexMap;
 use std::alloc::{AllocError, Global};
 use std::marker::Model;
 
-/// Numbers under names; the first number under a name stays.
+/// Numbers under names; the first number under a name stays. Seen as the list of names' bytes with their numbers, in the order
+/// in which they were added.
 #[derive(Drop)]
-pub(crate) struct Table {
+pub struct Table {
     alloc: Global,
     map: IndexMap<Vec<u8>, usize>,
 }
@@ -25,7 +26,8 @@ impl Model for Table {
 }
 
 impl Table {
-    pub(crate) fn new(alloc: Global) -> Table
+    /// An empty table.
+    pub fn new(alloc: Global) -> Table
         ensures { result ≡ [] }
     {
         Table {
@@ -35,14 +37,17 @@ impl Table {
     }
 
     /// The number under a name.
-    pub(crate) fn get(&self, name: &[u8]) -> Option<usize>
+    pub fn get(&self, name: &[u8]) -> Option<usize>
         ensures { result ≡ number_of self.now name.now }
     {
         self.map.get(name).copied()
     }
 
     /// Adds a name where it is new, and tells whether it was.
-    pub(crate) fn add(&mut self, name: &[u8], value: usize) -> Result<bool, AllocError>
+    ///
+    /// # Errors
+    /// `AllocError` for want of memory. The table is then as before.
+    pub fn add(&mut self, name: &[u8], value: usize) -> Result<bool, AllocError>
         ensures is_new { IfOk result (λ new. new ≡ is_none (number_of self.old name.now)) }
         ensures new { IfOk result (λ new. OnTrue new (self.new ≡ self.old ++ (name.now, value) ∷ [])) }
         ensures old { IfOk result (λ new. OnFalse new (self.new ≡ self.old)) }

@@ -1,12 +1,12 @@
 //! Where the heads of loops stand.
 ghost use Rattle.std.specs.Prelude.{◌≡◌, ◌+◌, ◌≤◌, ◌∷◌, ◌++◌, map, OnOk};
-ghost use Rattle.bed_table.specs.Code.{kind_piece, body_piece};
+ghost use Rattle.bed_table.specs.Code.{kind_piece, body_piece, function_piece};
 
 use crate::size::{
-    LIST_FRONT, LIST_HEAD, body_falls, jump_size, key_test_size, small_body_size, small_kind_size,
-    test_size,
+    ENTRY, LIST_FRONT, LIST_HEAD, body_falls, jump_size, key_test_size, small_body_size,
+    small_kind_size, test_size,
 };
-use bed_lang::{Stmt, StmtKind};
+use bed_lang::{Function, Stmt, StmtKind};
 use std::alloc::AllocError;
 
 // Appends the addresses of the loop heads of a statement that begins at `at`.
@@ -69,4 +69,17 @@ pub(crate) fn push_heads(out: &mut Vec<u64>, at: u64, body: &[Stmt]) -> Result<(
         next += small_kind_size(&item.kind);
     }
     Ok(())
+}
+
+/// Appends the addresses of the loop heads of a function that stands at `at`, in the order of the text. The only error is
+/// want of memory.
+pub fn push_function_heads(
+    out: &mut Vec<u64>,
+    at: u64,
+    function: &Function,
+) -> Result<(), AllocError>
+    requires { at + (function_piece function.now).size ≤ 4294967296 }
+    ensures { OnOk result (out.new.items ≡ out.old.items ++ map (λ h. h.address) ((function_piece function.now).heads at)) }
+{
+    push_heads(out, at + ENTRY, function.body.as_slice())
 }

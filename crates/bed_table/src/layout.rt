@@ -158,13 +158,20 @@ pub(crate) fn outside_imports<'a>(
     Ok(seen)
 }
 
+/// The number of bytes of a function's code, at most 18446744073709551615. A longer code gives that number.
+pub fn function_length(function: &Function) -> u64
+    ensures { result ≡ min (function_piece function.now).size (2 ^ 64 - 1) }
+{
+    body_size(function.body.as_slice()).saturating_add(ENTRY)
+}
+
 // The length of the code of a module's functions, added to another length.
 fn module_size(before: u64, functions: &[Function]) -> u64
     ensures { result ≡ min (before + layout.sum_of_sizes functions.now) (2 ^ 64 - 1) }
 {
     let mut size = before;
     for function in functions {
-        size = size.saturating_add(body_size(function.body.as_slice()).saturating_add(ENTRY));
+        size = size.saturating_add(function_length(function));
     }
     size
 }

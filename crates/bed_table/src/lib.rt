@@ -13,4 +13,5 @@ mod size;
 mod symbols;
 
 pub use build::image;
-pub use layout::code_length;
+pub use heads::push_function_heads;
+pub use layout::{code_length, function_length};

@@ -4,11 +4,10 @@ ghost use Rattle.bed_table.specs.Code.{function_piece};
 ghost use Rattle.bed_table.specs.Layout as layout;
 ghost use Rattle.bed_table.specs.Image as image;
 
-use crate::heads::push_heads;
+use crate::heads::push_function_heads;
 use crate::layout::{Item, function_size};
 use crate::put::put_word;
 use crate::scope::{Known, address_of};
-use crate::size::ENTRY;
 use bed_lang::Name;
 use std::alloc::{AllocError, Global};
 
@@ -74,7 +73,7 @@ impl SymbolTable {
     {
         let name = item.function.name.bytes.as_slice();
         let mut heads = Vec::new(alloc);
-        push_heads(&mut heads, at + ENTRY, item.function.body.as_slice())?;
+        push_function_heads(&mut heads, at, item.function)?;
         self.put(u8::from(item.function.exported), at, name)?;
         self.put_loops(alloc, name, heads.as_slice())
     }

@@ -1,4 +1,4 @@
-use Rattle.bed_names.proofs.TableLemmas.{item_index, item_twice}
+use Rattle.bed_names.proofs.TableLaws.{item_index, item_twice}
 use Rattle.bed_names.proofs.index.index.Goals as goal
 
 pub loop-number-preserved : goal.loop-number-preserved

@@ -3,7 +3,7 @@ use Rattle.bed_names.specs.Faults.{noted}
 use Rattle.bed_names.specs.Tables.{IsIndex}
 use Rattle.bed_names.specs.Terms.{twice_faults}
 use Rattle.bed_names.proofs.StatementLemmas.{three_notes}
-use Rattle.bed_names.proofs.TableLemmas.{indexes}
+use Rattle.bed_names.proofs.TableLaws.{indexes}
 use Rattle.bed_names.proofs.declared.Declared.new.Goals as goal
 
 pub invariant_of-result : goal.invariant_of-result

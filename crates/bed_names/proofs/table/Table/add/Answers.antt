@@ -1,6 +1,6 @@
 use Rattle.std.proofs.Common.{◌∙◌, ap}
 use Rattle.bed_names.specs.Tables.{by_bytes}
-use Rattle.bed_names.proofs.TableLemmas.{is_new, insert_named}
+use Rattle.bed_names.proofs.TableLaws.{is_new, insert_named}
 use Rattle.bed_names.proofs.table.Table.add.Goals as goal
 
 pub returns-then-contains_key-clause-is_new : goal.returns-then-contains_key-clause-is_new

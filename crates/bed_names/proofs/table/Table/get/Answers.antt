@@ -1,5 +1,5 @@
 use Rattle.std.proofs.Common.{◌∙◌}
-use Rattle.bed_names.proofs.TableLemmas.{lookup_bytes}
+use Rattle.bed_names.proofs.TableLaws.{lookup_bytes}
 use Rattle.bed_names.proofs.table.Table.get.Goals as goal
 
 pub returns : goal.returns

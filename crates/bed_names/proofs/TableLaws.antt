@@ -1,4 +1,4 @@
--- What an index map holds under a name, by the names' bytes.
+-- What tables hold under a name, by the names' bytes, and the items of a list by its table.
 use Rattle.std.proofs.Common.{◌≡◌, ◌∙◌, sym, ap, subst, refl, ℕ, suc, ◌+◌, ◌<◌, arith, add-one, Bool, true, false, cond, ◌||◌, not, List, [], ◌∷◌, ◌++◌, map, length, take, drop, get_or, Option, None, Some, Vec, is_none, is_some}
 use Rattle.std.specs.Prelude.{option_map, find}
 use Rattle.std.specs.Bool.{OnTrue, OnFalse}
@@ -114,7 +114,7 @@ item_step item items true p o h = refl
 item_step item items false None o h = h
 item_step item items false (Some n) o h = rw add-one h
 
-bytes_eq_turned : (a b : List ℕ) → bytes_eq a b ≡ bytes_eq b a
+pub bytes_eq_turned : (a b : List ℕ) → bytes_eq a b ≡ bytes_eq b a
 bytes_eq_turned a b =
     let d = bytes_eq-Decides b a in
     same_from_decides (bytes_eq a b) (bytes_eq b a) (bytes_eq-Decides a b) (λ e. sym (d.0 e), λ e. d.1 (sym e))
