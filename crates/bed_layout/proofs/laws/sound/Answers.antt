@@ -1,0 +1,8 @@
+use Rattle.bed_layout.proofs.SoundLaws.{sound_from_all, sound}
+use Rattle.bed_layout.proofs.laws.sound.Goals as goal
+
+pub returns-clause-from_all : goal.returns-clause-from_all
+returns-clause-from_all c = sound_from_all
+
+pub returns-clause-from_exported : goal.returns-clause-from_exported
+returns-clause-from_exported c = sound

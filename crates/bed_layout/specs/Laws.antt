@@ -1,0 +1,21 @@
+-- From blocks to sound images: statements of laws.
+use Rattle.std.specs.Prelude.{List, Contains}
+use Rattle.bed_sat.specs.Runs.{Outside}
+use Rattle.bed_sat.specs.Sound.{Linked, world_of, IsOutsideOf, IsSound, IsSoundFromAll}
+use Rattle.bed_layout.specs.Functions.{BlockFunction, places_in}
+use Rattle.bed_layout.specs.Keeping.{KeepsFunction}
+use Rattle.bed_layout.specs.Placed.{IsPlaced}
+
+-- beside every outside, the blocks of each function keep its specification
+abbrev pub AllKeep : Linked → List BlockFunction → Type 0
+AllKeep p fs =
+    (X : Outside) → IsOutsideOf p X → (f : BlockFunction) → Contains fs f
+    → KeepsFunction (world_of p X) f.site (places_in f) f.blocks f.heads f.entry
+
+-- where functions keep their specifications and are laid out, the code is sound from all of them
+abbrev pub KeptIsSoundFromAll : Type 0
+KeptIsSoundFromAll = (p : Linked) (fs : List BlockFunction) → IsPlaced p fs → AllKeep p fs → IsSoundFromAll p
+
+-- so it is from the exported ones
+abbrev pub KeptIsSound : Type 0
+KeptIsSound = (p : Linked) (fs : List BlockFunction) → IsPlaced p fs → AllKeep p fs → IsSound p

@@ -1,0 +1,4 @@
+pub mod Functions
+pub mod Keeping
+pub mod Placed
+pub mod Laws
