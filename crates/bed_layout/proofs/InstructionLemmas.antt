@@ -41,7 +41,7 @@ state_of s u eip flags = record {
 
 -- Numbers are written modulo 2^32
 
-word_bytes-wrap : (n : ℕ) → word_bytes n ≡ word_bytes (wrap n)
+pub word_bytes-wrap : (n : ℕ) → word_bytes n ≡ word_bytes (wrap n)
 word_bytes-wrap n =
     let a : n % 256 ≡ wrap n % 256 = omega arith in
     let b : n / 256 % 256 ≡ wrap n / 256 % 256 = omega arith in

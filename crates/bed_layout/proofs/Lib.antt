@@ -5,6 +5,13 @@ mod HeadLemmas
 mod WholeLemmas
 mod PlaceLemmas
 mod MoveLemmas
+mod LabelLemmas
+mod WrapLemmas
+mod PutLemmas
+mod NameLemmas
+mod FunctionLemmas
+mod LayLemmas
+mod EntryLemmas
 mod ByteLemmas
 mod StartLemmas
 mod PlacementLemmas

@@ -5,6 +5,7 @@ use Rattle.bed_sat.specs.Sound.{Linked, world_of, IsOutsideOf, IsSound, IsSoundF
 use Rattle.bed_layout.specs.Functions.{BlockFunction, places_in}
 use Rattle.bed_layout.specs.Keeping.{KeepsFunction}
 use Rattle.bed_layout.specs.Placed.{IsPlaced}
+use Rattle.bed_layout.specs.Written.{IsWritten}
 
 -- beside every outside, the blocks of each function keep its specification
 abbrev pub AllKeep : Linked → List BlockFunction → Type 0
@@ -16,6 +17,11 @@ AllKeep p fs =
 abbrev pub KeptIsSoundFromAll : Type 0
 KeptIsSoundFromAll = (p : Linked) (fs : List BlockFunction) → IsPlaced p fs → AllKeep p fs → IsSoundFromAll p
 
--- so it is from the exported ones
+-- so it is where the functions' blocks are those of statements whose conditions hold
+abbrev pub WrittenIsSoundFromAll : Type 0
+WrittenIsSoundFromAll =
+    (p : Linked) (fs : List BlockFunction) → IsPlaced p fs → ((f : BlockFunction) → Contains fs f → IsWritten p f) → IsSoundFromAll p
+
+-- and from the exported ones
 abbrev pub KeptIsSound : Type 0
 KeptIsSound = (p : Linked) (fs : List BlockFunction) → IsPlaced p fs → AllKeep p fs → IsSound p

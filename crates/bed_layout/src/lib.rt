@@ -1,4 +1,14 @@
 //! The layout of code: from the blocks of functions to bytes.
 #![tactic(auto)]
 
+mod functions;
+mod labels;
+mod layer;
 pub mod laws;
+mod names;
+mod put;
+mod rows;
+mod sizes;
+
+pub use functions::HasBlocks;
+pub use layer::{Layer, lay};
