@@ -1,5 +1,5 @@
 -- Loop heads, as blocks see them and as the machine does.
-use Rattle.std.proofs.Common.{◌≡◌, ℕ, suc, ◌+◌, Bool, true, false, if◌then◌else◌, bytes_eq, List, [], ◌∷◌, ◌++◌, length, refl, sym, ◌∙◌, ap, subst, arith, length-append}
+use Rattle.std.proofs.Common.{◌≡◌, ℕ, ◌+◌, Bool, true, false, if◌then◌else◌, bytes_eq, List, [], ◌∷◌, ◌++◌, length, refl, sym, ◌∙◌, ap, subst, arith, length-append}
 use Rattle.bed_lang.specs.Numbers.{wrap}
 use Rattle.bed_machine.specs.Memory.{Memory, empty}
 use Rattle.bed_machine.specs.declared.machine.Flags.{Flags}

@@ -1,5 +1,5 @@
 -- An instruction of blocks is an instruction of the machine.
-use Rattle.std.proofs.Common.{◌≡◌, ◌≢◌, ℕ, ◌+◌, ◌-◌, ◌*◌, ◌/◌, ◌%◌, ◌<◌, Bool, true, false, not, nat_eq, nat_lt, if◌then◌else◌, Option, Some, None, Result, Ok, Err, List, [], ◌∷◌, refl, sym, ◌∙◌, ap, ap₂, arith}
+use Rattle.std.proofs.Common.{◌≡◌, ℕ, ◌+◌, ◌/◌, ◌%◌, ◌<◌, Bool, true, false, not, nat_eq, nat_lt, if◌then◌else◌, Option, Some, None, Result, Ok, Err, List, [], ◌∷◌, refl, ◌∙◌, ap, arith}
 use Rattle.std.proofs.lemmas.Bool.Decides.{nat_tests}
 use Rattle.bed_lang.specs.Numbers.{wrap, word_bytes}
 use Rattle.bed_lang.specs.declared.module.Op.{Op}
@@ -8,11 +8,10 @@ use Rattle.bed_lang.specs.declared.module.Rel.{Rel}
 use Rattle.bed_lang.specs.declared.module.Rel.TheVariants.{Equal, Unequal, Less, AtMost}
 use Rattle.bed_machine.specs.Instructions.{row, IsAllowed, number_of, memory_form, register_form}
 use Rattle.bed_machine.specs.Machine.{MachineState, effect as machine_effect, on_access as machine_access, is_taken, on_branch}
-use Rattle.bed_machine.specs.declared.registers.Reg.{Reg}
 use Rattle.bed_machine.specs.declared.registers.Reg.TheVariants.{Eax, Ecx, Edx, Esp, Ebp, Esi}
 use Rattle.bed_machine.specs.declared.instructions.Rm.TheVariants.{Reg as InRegister, Mem}
 use Rattle.bed_machine.specs.declared.instructions.Ins.{Ins}
-use Rattle.bed_machine.specs.declared.instructions.Ins.TheVariants.{MovImm, MovTo, MovFrom, MovByte, Movzx, Cmp, Immediate, Jcc}
+use Rattle.bed_machine.specs.declared.instructions.Ins.TheVariants.{MovImm, MovTo, MovFrom, MovByte, Movzx, Immediate, Jcc}
 use Rattle.bed_machine.specs.declared.machine.Flags.{Flags}
 use Rattle.bed_machine.specs.declared.machine.Flags.TheVariants.{Unknown, Known}
 use Rattle.bed_machine.specs.declared.machine.Fault.{Fault}

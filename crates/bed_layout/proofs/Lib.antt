@@ -11,7 +11,8 @@ mod PutLemmas
 mod NameLemmas
 mod FunctionLemmas
 mod LayLemmas
-mod EntryLemmas
+pub mod EntryLaws
+pub mod PieceLaws
 mod ByteLemmas
 mod StartLemmas
 mod PlacementLemmas

@@ -1,5 +1,5 @@
 -- Where a turn leads: to a label that the blocks name.
-use Rattle.std.proofs.Common.{◌≡◌, ℕ, zero, suc, ◌+◌, ◌<◌, Bool, true, false, if◌then◌else◌, Option, Some, None, Result, Ok, Err, List, [], ◌∷◌, ◌++◌, length, Contains, inl, inr, ◌⊎◌, refl, sym, ◌∙◌, ap, subst, arith}
+use Rattle.std.proofs.Common.{◌≡◌, ℕ, zero, suc, ◌+◌, Bool, true, false, if◌then◌else◌, Option, Some, None, Result, Ok, Err, List, [], ◌∷◌, ◌++◌, Contains, inl, inr, refl, sym, ap, subst, arith}
 use Rattle.std.proofs.lemmas.List.Elements.{Contains-append_left, Contains-append_right}
 use Rattle.bed_machine.specs.declared.registers.Reg.{Reg}
 use Rattle.bed_machine.specs.declared.registers.Reg.TheVariants.{Eax, Ecx, Edx, Ebx, Esp, Ebp, Esi, Edi}
@@ -8,7 +8,7 @@ use Rattle.bed_il.specs.declared.blocks.Inst.TheVariants.{SaveReturn, Fetch, Kee
 use Rattle.bed_il.specs.declared.blocks.Jump.{Jump}
 use Rattle.bed_il.specs.declared.blocks.Jump.TheVariants.{Goto, Fall, Test, Register}
 use Rattle.bed_il.specs.declared.blocks.Block.{Block}
-use Rattle.bed_il.specs.BlockMachine.{BlockState, Move, Within, Returns, Calls, Strays, Faults, Missing, il_move, to_next, follows, in_block, in_blocks, compares, block_at, back_label}
+use Rattle.bed_il.specs.BlockMachine.{BlockState, Within, Returns, Calls, Strays, Faults, Missing, il_move, to_next, follows, in_block, in_blocks, compares, block_at, back_label}
 use Rattle.bed_il.specs.Fit.{back_labels, jump_labels, named_labels}
 use Rattle.bed_layout.proofs.PlaceLemmas.{found_cases, none_some, some_same}
 

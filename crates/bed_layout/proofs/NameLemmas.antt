@@ -1,9 +1,8 @@
 -- Tables of addresses by names.
-use Rattle.std.proofs.Common.{◌≡◌, ◌≢◌, ℕ, Bool, true, false, cond, if◌then◌else◌, bytes_eq, Option, Some, None, unwrap_or, is_none, List, [], ◌∷◌, ◌++◌, map, drop, get_or, length, ◌+◌, ◌<◌, suc, add-one, inl, inr, ◌⊎◌, refl, sym, ◌∙◌, ap, ap₂, subst, arith}
+use Rattle.std.proofs.Common.{◌≡◌, ℕ, Bool, true, false, cond, if◌then◌else◌, bytes_eq, Option, Some, None, unwrap_or, is_none, List, [], ◌∷◌, ◌++◌, map, drop, get_or, length, ◌+◌, ◌<◌, add-one, inl, inr, ◌⊎◌, refl, sym, ◌∙◌, ap, ap₂, subst}
 use Rattle.std.proofs.Math.Seq.{drop-cons}
 use Rattle.std.proofs.lemmas.List.{append-nil}
 use Rattle.std.specs.Bool.{OnTrue, OnFalse}
-use Rattle.bed_lang.specs.declared.word.Name.{Name}
 use Rattle.bed_table.specs.Layout.{Label, address_of}
 use Rattle.bed_names.specs.Tables.{number_of}
 use Rattle.bed_sat.proofs.FrameLaws.{bytes_eq_same, bytes_eq_is, bytes_eq_not}
@@ -87,7 +86,7 @@ pub table_known : (empty first second : List (List ℕ × ℕ)) (fs is : List La
     → address_in second ≡ address_of (fs ++ is)
 table_known empty first second fs is none known more_known =
     let at : (x : List ℕ) → address_in second x ≡ address_of (fs ++ is) x = (λ x.
-        more_known [] x ∙ known (is ++ []) x ∙ ap (λ t. address_with t (fs ++ (is ++ [])) x) none ∙ ap (λ l. address_of (fs ++ l) x) (append-nil is)) in
+    more_known [] x ∙ known (is ++ []) x ∙ ap (λ t. address_with t (fs ++ (is ++ [])) x) none ∙ ap (λ l. address_of (fs ++ l) x) (append-nil is)) in
     λ i x. at x i
 
 -- one item more

@@ -1,5 +1,5 @@
 -- What the layout gives, from functions laid out one right after the other.
-use Rattle.std.proofs.Common.{◌≡◌, ◌≢◌, ℕ, zero, suc, ◌+◌, ◌<◌, ◌≤◌, Option, Some, None, IsSome, List, [], ◌∷◌, ◌++◌, map, length, Contains, inl, inr, ◌⊎◌, refl, sym, ◌∙◌, ap, ap₂, subst, arith, length-append}
+use Rattle.std.proofs.Common.{◌≡◌, ◌≢◌, ℕ, zero, suc, ◌+◌, ◌<◌, ◌≤◌, Option, Some, None, IsSome, List, [], ◌∷◌, ◌++◌, map, length, Contains, inl, inr, ◌⊎◌, refl, sym, ◌∙◌, ap, subst, arith}
 use Rattle.std.proofs.lemmas.List.{append-nil}
 use Rattle.bed_lang.specs.declared.module.Rel.{Rel}
 use Rattle.bed_lang.specs.Values.{Values}
@@ -10,17 +10,17 @@ use Rattle.bed_sat.specs.Runs.{Outside}
 use Rattle.bed_sat.specs.Sound.{Linked, FunctionAt, LoopAt, IsOutsideOf, IsStart}
 use Rattle.bed_il.specs.declared.blocks.Inst.{Inst}
 use Rattle.bed_il.specs.declared.blocks.Inst.TheVariants.{SaveReturn, Fetch, Keep, KeepAnswer, Apply, LoadWord, LoadByte, StoreWord, StoreByte, RaiseSp, LowerSp, ReturnTo, SetAnswer, TakeReturn}
-use Rattle.bed_il.specs.declared.blocks.Jump.TheVariants.{Goto, Fall, Test}
+use Rattle.bed_il.specs.declared.blocks.Jump.TheVariants.{Fall, Test}
 use Rattle.bed_il.specs.declared.blocks.Block.{Block}
-use Rattle.bed_il.specs.BlockMachine.{BlockState, Within, Calls, il_move, block_at, back_label}
-use Rattle.bed_il.specs.Bytes.{ins_of, insts_bytes, laid}
+use Rattle.bed_il.specs.BlockMachine.{block_at, back_label}
+use Rattle.bed_il.specs.Bytes.{insts_bytes, laid}
 use Rattle.bed_il.specs.Places.{insts_size, jump_size, block_size, blocks_size, place_of}
 use Rattle.bed_il.specs.Fit.{first_label, named_labels, jump_labels, HasCode, FitFunction}
 use Rattle.bed_il.proofs.PlaceLaws.{inst_size_is, insts_size_is, laid_size_is, place_first}
 use Rattle.bed_laws.specs.Activations.{FunctionSite}
 use Rattle.bed_laws.specs.Keeps.{LoopHead}
 use Rattle.bed_layout.specs.Functions.{BlockFunction, places_in, function_bytes, code_bytes, StandFrom}
-use Rattle.bed_layout.specs.Placed.{IsPlaced, IsFunctionOf, IsLoopOf}
+use Rattle.bed_layout.specs.Placed.{IsPlaced}
 use Rattle.bed_layout.proofs.CodeLemmas.{HasAt, has_front, has_back, end_at}
 use Rattle.bed_layout.proofs.InstructionLemmas.{IsSmall}
 use Rattle.bed_layout.proofs.PlaceLemmas.{some_same, none_some, IsBusy, found_among, block_has, place_low, rank_of, After, GoesOnAt, after_next, marked_positive, only_place, place_within, inside_not, inside_within, label_within, next_within}

@@ -1,13 +1,12 @@
 -- Bytes put one after the other: the front of the room grows.
-use Rattle.std.proofs.Common.{◌≡◌, ℕ, zero, suc, ◌+◌, ◌%◌, ◌<◌, ◌≤◌, List, [], ◌∷◌, ◌++◌, length, take, drop, get_or, refl, sym, ◌∙◌, ap, ap₂, subst, arith, add-one, append_assoc, length-append}
+use Rattle.std.proofs.Common.{◌≡◌, ℕ, ◌+◌, ◌%◌, ◌<◌, List, ◌∷◌, ◌++◌, length, drop, get_or, sym, ◌∙◌, ap, ap₂, arith, add-one, append_assoc}
 use Rattle.std.proofs.Math.Seq.{drop-cons}
 use Rattle.bed_lang.specs.Numbers.{wrap}
 use Rattle.bed_machine.specs.Instructions.{row}
 use Rattle.bed_il.specs.declared.blocks.Inst.{Inst}
-use Rattle.bed_il.specs.declared.blocks.Jump.{Jump}
 use Rattle.bed_il.specs.declared.blocks.Block.{Block}
 use Rattle.bed_il.specs.Bytes.{ins_of, insts_bytes, jump_bytes, block_bytes, laid}
-use Rattle.bed_il.specs.Places.{inst_size, insts_size, jump_size, block_size, blocks_size}
+use Rattle.bed_il.specs.Places.{inst_size, insts_size, block_size, blocks_size}
 use Rattle.bed_il.proofs.PlaceLaws.{inst_size_is, insts_size_is, block_size_is}
 use Rattle.bed_layout.proofs.WrapLemmas.{jump_wraps, laid_wraps}
 

@@ -1,9 +1,9 @@
 -- Where functions keep their specifications and are laid out, the code is sound.
-use Rattle.std.proofs.Common.{List, Contains, sym, subst}
-use Rattle.bed_sat.specs.Sound.{Linked, world_of}
+use Rattle.std.proofs.Common.{sym, subst}
+use Rattle.bed_sat.specs.Sound.{world_of}
 use Rattle.bed_layout.specs.Functions.{places_in}
 use Rattle.bed_layout.specs.Keeping.{KeepsFunction}
-use Rattle.bed_layout.proofs.EntryLemmas.{bodies_keep}
+use Rattle.bed_layout.proofs.EntryLaws.{bodies_keep}
 use Rattle.bed_layout.specs.Laws.{KeptIsSoundFromAll, KeptIsSound, WrittenIsSoundFromAll}
 use Rattle.bed_layout.proofs.PlacementLemmas.{Fun, site, places, blocks, heads, entry, fun_at, layout}
 use Rattle.bed_layout.proofs.StartLemmas.{start_sound}
@@ -23,4 +23,4 @@ pub written_from_all : WrittenIsSoundFromAll
 written_from_all p fs P written = sound_from_all p fs P (λ X out f is.
     let r = written f is in
     subst (λ bs. KeepsFunction (world_of p X) f.site (places_in f) bs f.heads f.entry) (sym r.blocks)
-        (bodies_keep (world_of p X) f.site r.further (places_in f) r.inner f.heads f.entry r.end r.next r.body r.scoped r.labels r.spans (r.keeps X out) r.ends (r.hold X out)))
+    (bodies_keep (world_of p X) f.site r.further (places_in f) r.inner f.heads f.entry r.end r.next r.body r.scoped r.labels r.spans (r.keeps X out) r.ends (r.hold X out)))

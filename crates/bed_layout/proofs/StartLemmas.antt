@@ -1,5 +1,5 @@
 -- Every state of every run from a start is fine, where functions keep their specifications and are laid out.
-use Rattle.std.proofs.Common.{◌≡◌, ℕ, zero, suc, ◌+◌, ◌<◌, Bool, true, false, nat_eq, if◌then◌else◌, Option, Some, None, IsSome, Result, Ok, Err, List, [], ◌∷◌, length, Contains, All, inl, inr, ◌⊎◌, refl, sym, ◌∙◌, ap, subst, arith}
+use Rattle.std.proofs.Common.{◌≡◌, ℕ, zero, suc, ◌<◌, Bool, true, false, nat_eq, Option, Some, None, IsSome, Ok, List, [], ◌∷◌, Contains, All, inl, inr, ◌⊎◌, refl, sym, ◌∙◌, ap, subst, arith}
 use Rattle.std.proofs.lemmas.Bool.Decides.{nat_tests}
 use Rattle.bed_lang.specs.declared.module.Signature.{Signature}
 use Rattle.bed_lang.specs.Values.{Values}
@@ -7,8 +7,6 @@ use Rattle.bed_machine.specs.Memory.{Memory}
 use Rattle.bed_machine.specs.MachineCode.{MachineCode, IsInCode}
 use Rattle.bed_machine.specs.Machine.{MachineState, IsState, IsStep, Outside as NotInCode, NoInstruction, Makes}
 use Rattle.bed_machine.specs.declared.machine.Flags.{Flags}
-use Rattle.bed_machine.specs.declared.machine.Fault.{Fault}
-use Rattle.bed_sat.specs.Parts.{Includes}
 use Rattle.bed_sat.specs.Assertions.{World}
 use Rattle.bed_sat.specs.Frames.{arguments_at, EntersAt, LeavesAt, Meets, Returned, signature_of}
 use Rattle.bed_sat.specs.Runs.{Outside, Turn, Steps, Answers, IsRun}
@@ -22,7 +20,7 @@ use Rattle.bed_layout.specs.Keeping.{KeepsFunction}
 use Rattle.bed_layout.proofs.RunLemmas.{fine_run, fine_over}
 use Rattle.bed_layout.proofs.InstructionLemmas.{state_of}
 use Rattle.bed_layout.proofs.WholeLemmas.{Machine, function_well}
-use Rattle.bed_layout.proofs.ByteLemmas.{Layout, u, For, Shows, Jumped, HereEntered, has_block, shows_start, within, returns, calls, back_of}
+use Rattle.bed_layout.proofs.ByteLemmas.{Layout, u, For, Shows, Jumped, HereEntered, shows_start, within, returns, calls, back_of}
 
 -- a step is made in the code
 step_in_code : (c : MachineCode) (s t : MachineState) → IsStep c s (Ok t) → IsInCode c s.eip

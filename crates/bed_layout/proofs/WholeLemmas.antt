@@ -8,7 +8,7 @@ use Rattle.bed_lang.specs.declared.module.Signature.{Signature}
 use Rattle.bed_lang.specs.Values.{Values}
 use Rattle.bed_sat.specs.Parts.{Includes}
 use Rattle.bed_sat.specs.Assertions.{World}
-use Rattle.bed_sat.specs.Frames.{arguments_at, EntersAt, LeavesAt, signature_of}
+use Rattle.bed_sat.specs.Frames.{arguments_at, EntersAt, signature_of}
 use Rattle.bed_sat.proofs.PartLaws.{includes_trans}
 use Rattle.bed_il.specs.declared.blocks.Inst.{Inst}
 use Rattle.bed_il.specs.declared.blocks.Jump.{Jump}
@@ -16,8 +16,8 @@ use Rattle.bed_il.specs.declared.blocks.Jump.TheVariants.{Goto, Fall, Test, Regi
 use Rattle.bed_il.specs.declared.blocks.Block.{Block}
 use Rattle.bed_il.specs.BlockMachine.{BlockState, Move, Within, Returns, Calls, Strays, Faults, Missing, il_move, at_label, block_at, to_next, follows, in_block, in_blocks}
 use Rattle.bed_laws.specs.Activations.{FunctionSite, Activation}
-use Rattle.bed_laws.specs.Keeps.{LoopHead, IsAnswer, IsCall, IsReturn, IsNow, Turns, Safe}
-use Rattle.bed_layout.specs.Keeping.{IsEntry, RunsFrom, KeepsFunction}
+use Rattle.bed_laws.specs.Keeps.{LoopHead, IsAnswer, IsCall, IsNow, Turns, Safe}
+use Rattle.bed_layout.specs.Keeping.{IsEntry, KeepsFunction}
 
 some_same : {A : Type 0} {x y : A} → ◌≡◌ {A = Option A} (Some x) (Some y) → x ≡ y
 some_same e = cc

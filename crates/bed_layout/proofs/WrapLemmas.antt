@@ -1,5 +1,5 @@
 -- Bytes hang on addresses modulo 2^32 alone.
-use Rattle.std.proofs.Common.{◌≡◌, ℕ, ◌+◌, ◌-◌, ◌%◌, List, [], ◌∷◌, ◌++◌, length, refl, sym, ◌∙◌, ap, ap₂, arith}
+use Rattle.std.proofs.Common.{◌≡◌, ℕ, ◌+◌, ◌-◌, List, [], ◌∷◌, ◌++◌, length, refl, sym, ◌∙◌, ap, ap₂, arith}
 use Rattle.bed_lang.specs.Numbers.{wrap, word_bytes}
 use Rattle.bed_machine.specs.Instructions.{row, number_of}
 use Rattle.bed_machine.specs.declared.instructions.Ins.TheVariants.{Cmp, Jcc}

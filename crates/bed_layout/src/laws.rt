@@ -1,6 +1,6 @@
 //! Laws of code that is blocks laid out. Each function here does nothing: its contract is a law.
 
-ghost use Rattle.bed_layout.specs.Laws.{KeptIsSoundFromAll, KeptIsSound, WrittenIsSoundFromAll};
+ghost use Rattle.bed_layout.specs.Laws.{KeptIsSoundFromAll, KeptIsSound, WrittenIsSoundFromAll, PiecesAreCode};
 ghost use Rattle.bed_layout.specs.Bodies.{BodiesKeep};
 
 /// Code is sound, from all its functions and so from the exported ones, where it is functions laid out
@@ -18,4 +18,10 @@ pub fn sound()
 /// under the values with which the function was entered.
 pub fn bodies()
     ensures { BodiesKeep }
+{}
+
+/// The code is the bytes of its functions in order, as `Layer::fill` gives them, where functions have the
+/// addresses at which they stand.
+pub fn pieces()
+    ensures { PiecesAreCode }
 {}

@@ -3,8 +3,8 @@
 
 mod functions;
 mod labels;
-mod layer;
 pub mod laws;
+mod layer;
 mod names;
 mod put;
 mod rows;

@@ -15,10 +15,7 @@ fn add(table: &mut Table, name: &Name, address: u32) -> Result<(), AllocError>
     Ok(())
 }
 
-fn add_functions(
-    table: &mut Table,
-    functions: &[(Name, u32, bool)],
-) -> Result<(), AllocError>
+fn add_functions(table: &mut Table, functions: &[(Name, u32, bool)]) -> Result<(), AllocError>
     ensures { OnOk result ((more : List Label) (x : List ℕ) → address_with table.new more x ≡ address_with table.old (map function_label functions.now ++ more) x) }
 {
     for function in functions {

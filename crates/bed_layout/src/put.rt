@@ -53,14 +53,7 @@ fn distance(labels: &Labels, next: u32, label: u32) -> u32
     labels.place(label).wrapping_sub(next)
 }
 
-fn put_test(
-    into: &mut [u8],
-    from: usize,
-    labels: &Labels,
-    rel: Rel,
-    no: u32,
-    at: u32,
-) -> usize
+fn put_test(into: &mut [u8], from: usize, labels: &Labels, rel: Rel, no: u32, at: u32) -> usize
     requires labels { AreLabels labels.now }
     requires room { from + 8 ≤ length into.old }
     ensures size { result ≡ from + 8 }

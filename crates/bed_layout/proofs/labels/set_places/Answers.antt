@@ -1,5 +1,4 @@
-use Rattle.std.proofs.Common.{◌≡◌, ◌≢◌, ◌+◌, ◌<◌, ◌%◌, ℕ, length, slice_set, get_or, get_or-set_other, get_or-set_same, below_more, arith}
-use Rattle.bed_lang.specs.Numbers.{wrap}
+use Rattle.std.proofs.Common.{arith}
 use Rattle.bed_layout.proofs.LabelLemmas.{size_more, set_more}
 use Rattle.bed_layout.proofs.labels.set_places.Goals as goal
 

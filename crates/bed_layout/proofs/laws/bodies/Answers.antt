@@ -1,4 +1,4 @@
-use Rattle.bed_layout.proofs.EntryLemmas.{bodies_keep}
+use Rattle.bed_layout.proofs.EntryLaws.{bodies_keep}
 use Rattle.bed_layout.proofs.laws.bodies.Goals as goal
 
 pub returns : goal.returns

@@ -1,4 +1,4 @@
-use Rattle.std.proofs.Common.{◌≡◌, List, ℕ, ◌∷◌, ap, subst}
+use Rattle.std.proofs.Common.{◌≡◌, List, ℕ, ◌∷◌, subst}
 use Rattle.bed_table.specs.Layout.{Label}
 use Rattle.bed_layout.specs.Addresses.{address_with}
 use Rattle.bed_layout.proofs.NameLemmas.{add_known}

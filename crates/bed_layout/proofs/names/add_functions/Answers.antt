@@ -1,4 +1,3 @@
-use Rattle.bed_table.specs.Layout.{import_label}
 use Rattle.bed_layout.specs.Addresses.{function_label}
 use Rattle.bed_layout.proofs.NameLemmas.{known_step}
 use Rattle.bed_layout.proofs.names.add_functions.Goals as goal

@@ -1,5 +1,5 @@
 use Rattle.std.proofs.Common.{◌≡◌, ℕ, List, ◌++◌, map, drop}
-use Rattle.bed_table.specs.Layout.{Label, import_label}
+use Rattle.bed_table.specs.Layout.{Label}
 use Rattle.bed_layout.specs.Addresses.{function_label, address_with}
 use Rattle.bed_layout.proofs.names.add_functions.Given as goal
 

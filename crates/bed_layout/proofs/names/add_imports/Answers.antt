@@ -1,5 +1,4 @@
 use Rattle.bed_table.specs.Layout.{import_label}
-use Rattle.bed_layout.specs.Addresses.{function_label}
 use Rattle.bed_layout.proofs.NameLemmas.{known_step}
 use Rattle.bed_layout.proofs.names.add_imports.Goals as goal
 

@@ -1,6 +1,6 @@
 use Rattle.std.proofs.Common.{◌≡◌, ℕ, List, ◌++◌, map, drop}
 use Rattle.bed_table.specs.Layout.{Label, import_label}
-use Rattle.bed_layout.specs.Addresses.{function_label, address_with}
+use Rattle.bed_layout.specs.Addresses.{address_with}
 use Rattle.bed_layout.proofs.names.add_imports.Given as goal
 
 abbrev pub invariant-loop-import : goal.invariant-loop-import

@@ -1,6 +1,5 @@
-use Rattle.std.proofs.Common.{◌≡◌, ◌+◌, ◌≤◌, length, drop, take, ◌∙◌, ap, arith}
+use Rattle.std.proofs.Common.{◌+◌, drop, take, ◌∙◌, ap, arith}
 use Rattle.bed_machine.specs.Instructions.{row}
-use Rattle.bed_il.specs.Bytes.{insts_bytes}
 use Rattle.bed_il.specs.Places.{place_of, insts_size}
 use Rattle.bed_layout.specs.Addresses.{address_in}
 use Rattle.bed_layout.proofs.PutLemmas.{insts_step, insts_room}

@@ -1,12 +1,11 @@
 -- A function's entry and its returns: what its signature says there, in the values of its activation.
-use Rattle.std.proofs.Common.{◌≡◌, ◌≢◌, ℕ, zero, suc, ◌+◌, ◌<◌, ◌≤◌, Bool, true, false, not, ◌||◌, IsTrue, Option, Some, None, Ok, List, [], ◌∷◌, ◌++◌, map, take, drop, length, bytes_eq, if◌then◌else◌, Contains, inl, inr, ◌⊎◌, refl, sym, ◌∙◌, ap, ap₂, subst, arith, append_assoc, length-append}
-use Rattle.std.proofs.lemmas.List.{append-nil, take-append-drop, length-take-le}
+use Rattle.std.proofs.Common.{◌≡◌, ◌≢◌, ℕ, zero, suc, ◌+◌, ◌<◌, ◌≤◌, Bool, true, false, not, ◌||◌, IsTrue, Some, None, List, [], ◌∷◌, ◌++◌, map, take, drop, length, bytes_eq, Contains, inl, inr, ◌⊎◌, refl, sym, ◌∙◌, ap, ap₂, subst, arith, append_assoc, length-append}
+use Rattle.std.proofs.lemmas.List.{take-append-drop, length-take-le}
 use Rattle.std.proofs.lemmas.Bool.{cases_Bool}
 use Rattle.bed_lang.specs.Numbers.{wrap}
 use Rattle.bed_lang.specs.declared.word.Name.{Name}
 use Rattle.bed_lang.specs.declared.word.Sort.TheVariants as sort
 use Rattle.bed_lang.specs.declared.module.Signature.{Signature}
-use Rattle.bed_lang.specs.declared.statement.Stmt.{Stmt}
 use Rattle.bed_lang.specs.Lookups.{count_of_params}
 use Rattle.bed_lang.specs.Values.{Values, Variable, Named, Old, Answer, Fresh, Hole, set_word}
 use Rattle.bed_machine.specs.Memory.{Memory, IsMemory, empty, word_at, put_word}
@@ -15,27 +14,25 @@ use Rattle.bed_table.specs.Layout.{is_among}
 use Rattle.bed_sat.specs.Parts.{Joins, Includes}
 use Rattle.bed_sat.specs.Cells.{AreWordsAt}
 use Rattle.bed_sat.specs.Assertions.{World, Holds}
-use Rattle.bed_sat.specs.Frames.{set_words, words_at, arguments_at, frame_size, EntersAt, LeavesAt}
+use Rattle.bed_sat.specs.Frames.{set_words, words_at, arguments_at, EntersAt, LeavesAt}
 use Rattle.bed_sat.specs.Conditions.{Path, path_at_entry, body_part}
-use Rattle.bed_sat.specs.Scopes.{Scope, Agree, assertion_in}
+use Rattle.bed_sat.specs.Scopes.{Agree}
 use Rattle.bed_sat.proofs.PartLaws.{joins_left, joins_right, joins_empty, to_empty, includes_trans}
 use Rattle.bed_sat.proofs.BlockLaws.{word_place, put_slot, load_slot}
 use Rattle.bed_sat.proofs.FrameLaws.{bytes_eq_same, bytes_eq_is, bytes_eq_not, set_same, set_other}
 use Rattle.bed_sat.proofs.ScopeLaws.{holds_agree}
-use Rattle.bed_il.specs.declared.blocks.Inst.TheVariants.{SaveReturn}
 use Rattle.bed_il.specs.declared.blocks.Block.{Block}
 use Rattle.bed_il.specs.BlockMachine.{BlockState, at_label}
 use Rattle.bed_laws.specs.Activations.{FunctionSite, Activation, IsAmong, AreDistinct, AgreeButAt, words_of, IsMemoryOf}
-use Rattle.bed_laws.specs.Described.{StartHolds, Describes}
-use Rattle.bed_laws.specs.Keeps.{LoopHead, IsReturn, Reaches, Safe, AllHold, Law}
+use Rattle.bed_laws.specs.Described.{Describes}
+use Rattle.bed_laws.specs.Keeps.{LoopHead, IsReturn, Reaches, Safe, Law}
 use Rattle.bed_laws.specs.Spans.{Spans}
-use Rattle.bed_laws.specs.Statements.{KeepStatements}
-use Rattle.bed_laws.proofs.RunLaws.{Among, link}
+use Rattle.bed_laws.proofs.RunLaws.{link}
 use Rattle.bed_laws.proofs.SequenceLaws.{among_front, among_back}
 use Rattle.bed_laws.proofs.SlotLaws.{words_long, memory_rest}
 use Rattle.bed_laws.proofs.StraightLaws.{straight, after_inst}
 use Rattle.bed_laws.proofs.TestLaws.{one_block, one_span, no_heads}
-use Rattle.bed_layout.specs.Keeping.{IsEntry, RunsFrom, KeepsFunction}
+use Rattle.bed_layout.specs.Keeping.{IsEntry, KeepsFunction}
 use Rattle.bed_layout.specs.Bodies.{entry_block, own_variables, IsScoped, BodiesKeep}
 
 -- ---- names among others
