@@ -1,5 +1,5 @@
 -- Code put function after function.
-use Rattle.std.proofs.Common.{◌≡◌, ℕ, zero, suc, ◌+◌, ◌%◌, ◌^◌, ◌<◌, ◌≤◌, List, [], ◌∷◌, ◌++◌, map, drop, get_or, length, Contains, sym, ◌∙◌, ap, ap₂, subst, arith, append_assoc}
+use Rattle.std.proofs.Common.{◌≡◌, ℕ, zero, suc, ◌+◌, ◌%◌, ◌<◌, List, [], ◌∷◌, ◌++◌, map, drop, get_or, length, Contains, sym, ◌∙◌, ap, ap₂, subst, arith, append_assoc}
 use Rattle.std.proofs.lemmas.List.Elements.{Contains-append_left, Contains-append_right}
 use Rattle.bed_lang.specs.Numbers.{wrap}
 use Rattle.bed_il.specs.declared.blocks.Block.{Block}
@@ -48,10 +48,3 @@ pub among_all : {M : Type 0} (each : M → List (List Block)) (code : List M) (k
 among_all each [] k m B lt is there = absurd (omega arith)
 among_all each (n ∷ code) zero m B lt is there = Contains-append_left (each n) (functions_in (map each code)) B (subst (λ x. Contains (each x) B) is there)
 among_all each (n ∷ code) (suc k) m B lt is there = Contains-append_right (each n) (functions_in (map each code)) B (among_all each code k m B (omega arith) is there)
-
-pub fits : (size room : ℕ) → size < 2 ^ 32 → wrap size ≤ room → size ≤ room
-fits size room lt le = omega arith
-
--- an element is among the elements
-pub one_of : {A : Type 0} (xs : List A) (k : ℕ) (x : A) → k < length xs → x ≡ get_or xs k x → Contains xs x
-one_of xs k x lt is = (k, lt, sym is)

@@ -47,7 +47,7 @@ impl Layer {
         imports: &[(Name, u32)],
         code: &[M],
     ) -> Result<Layer, AllocError>
-        ensures room { IfOk result (λ l. (B : List Block) → Contains (functions_in (map M.each code.now)) B → wrap (places.blocks_size B) ≤ length l.bytes) }
+        ensures room { IfOk result (λ l. (B : List Block) → Contains (functions_in (map M.each code.now)) B → places.blocks_size B < 2 ^ 32 → places.blocks_size B ≤ length l.bytes) }
         ensures addresses { IfOk result (λ l. address_in l.names ≡ addresses functions.now imports.now) }
     {
         let names = table_of(alloc, functions, imports)?;
