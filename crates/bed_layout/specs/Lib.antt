@@ -1,0 +1,9 @@
+pub mod Functions
+pub mod Keeping
+pub mod Bodies
+pub mod Placed
+pub mod Written
+pub mod Laws
+pub mod Addresses
+pub mod Labels
+pub mod Layered
