@@ -1,13 +1,13 @@
 //! What is declared: the list segments of every module, a predicate d that doubles its argument, and the
 //! label f of a signature C.
-use crate::trees::{made, name};
+use crate::trees::{built, name};
 use bed_lang::{Assertion, Bind, Decls, List, Name, Predicate, Sort, Term};
 use std::alloc::{AllocError, Global};
 use std::test::Fail;
 
 /// The terms of a text: its facts and then its atoms.
 pub(crate) fn terms(alloc: Global, text: &str) -> Result<List<Term>, Fail> {
-    let made = made(alloc, text)?;
+    let made = built(alloc, text)?;
     let mut terms = List::new(alloc);
     for p in made.facts.as_slice() {
         terms.push(Term::Pure(p.copy(alloc)?))?;

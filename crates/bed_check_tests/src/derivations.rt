@@ -1,6 +1,6 @@
 //! Derivations of facts in one state, each with its answer.
 use crate::declared::declarations;
-use crate::trees::{fact, made, tree};
+use crate::trees::{Made, built, fact, tree};
 use bed_check_pure::{Verdict, check_pure};
 use bed_deriv::{Deriv, SymState};
 use bed_lang::{Decls, List, Pure};
@@ -171,11 +171,11 @@ const CASES: [(&str, &str, (u32, u8)); 133] = [
 ];
 
 fn state(alloc: Global) -> Result<SymState, Fail> {
-    let made = made(alloc, STATE)?;
+    let Made { facts, atoms, .. } = built(alloc, STATE)?;
     Ok(SymState {
         locals: List::new(alloc),
-        facts: made.facts,
-        atoms: made.atoms,
+        facts,
+        atoms,
         next: 9,
     })
 }

@@ -1,6 +1,6 @@
 //! Nodes for the rest of a condition, each with its answer.
 use crate::declared::declarations;
-use crate::trees::{made, tree};
+use crate::trees::{Made, built, tree};
 use bed_check_heap::{Verdict, heap_step};
 use bed_deriv::{Deriv, SymState};
 use bed_lang::{Arg, Atom, Decls, List, Word};
@@ -151,11 +151,11 @@ const BYTES: [(u32, &str, Answer); 5] = [
 ];
 
 fn state_of(alloc: Global, text: &str) -> Result<SymState, Fail> {
-    let made = made(alloc, text)?;
+    let Made { facts, atoms, .. } = built(alloc, text)?;
     Ok(SymState {
         locals: List::new(alloc),
-        facts: made.facts,
-        atoms: made.atoms,
+        facts,
+        atoms,
         next: 9,
     })
 }

@@ -16,6 +16,7 @@ use std::mem;
 use std::test::Fail;
 
 /// What a text has made.
+#[derive(Drop)]
 pub(crate) struct Made {
     pub words: List<Word>,
     pub seqs: List<Seq>,
@@ -376,7 +377,10 @@ fn nothing(alloc: Global) -> Made {
 
 fn read(alloc: Global, made: &mut Made, text: &[u8]) -> Result<(), Fail> {
     let mut rest = text;
-    while let [letter, more @ ..] = rest {
+    for _ in text {
+        let [letter, more @ ..] = rest else {
+            return Ok(());
+        };
         rest = more;
         match (*letter, more) {
             (b' ', _) => {}
@@ -395,7 +399,7 @@ fn read(alloc: Global, made: &mut Made, text: &[u8]) -> Result<(), Fail> {
 }
 
 /// What a text makes.
-pub(crate) fn made(alloc: Global, text: &str) -> Result<Made, Fail> {
+pub(crate) fn built(alloc: Global, text: &str) -> Result<Made, Fail> {
     let mut made = nothing(alloc);
     read(alloc, &mut made, text.as_bytes())?;
     Ok(made)
@@ -403,7 +407,7 @@ pub(crate) fn made(alloc: Global, text: &str) -> Result<Made, Fail> {
 
 /// The one fact, and the one tree, that a text makes.
 pub(crate) fn fact(alloc: Global, text: &str) -> Result<Pure, Fail> {
-    let mut made = made(alloc, text)?;
+    let mut made = built(alloc, text)?;
     match made.facts.pop() {
         Some(p) => Ok(p),
         None => Err(Fail::from("a fact")),
@@ -411,7 +415,7 @@ pub(crate) fn fact(alloc: Global, text: &str) -> Result<Pure, Fail> {
 }
 
 pub(crate) fn tree(alloc: Global, text: &str) -> Result<Deriv, Fail> {
-    let mut made = made(alloc, text)?;
+    let mut made = built(alloc, text)?;
     match made.trees.pop() {
         Some(d) => Ok(d),
         None => Err(Fail::from("a tree")),
