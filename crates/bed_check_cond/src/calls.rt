@@ -1,7 +1,6 @@
 //! The call at the end of a path's actions: `step` there.
 ghost use Rattle.std.specs.Prelude.{◌≡◌, ◌∷◌, ◌++◌, [], ◌+◌, ◌<◌, ◌≤◌, ◌==◌, length, nat_lt, take, drop, IfOk};
 ghost use Rattle.std.specs.Option.{option_copied};
-ghost use Rattle.bed_lang.specs.Lookups.{signature_named, label_signature, named_signature};
 ghost use Rattle.bed_lang.specs.Instances.{terms_with};
 ghost use Rattle.bed_deriv.specs.Checks.{first_failure};
 ghost use Rattle.bed_deriv.specs.Matches.{count_of_goals, match_goals, atoms_left};
@@ -14,14 +13,15 @@ ghost use Rattle.bed_check_cond.specs.Parts.{call_counts, call_values, call_chos
 use crate::actions::fresh_word;
 use crate::operands::{operand_term, operand_terms, set_local};
 use crate::point::{Moved, Point};
-use crate::values::{push_fresh, push_names, push_terms, to_values};
+use crate::values::{push_names, push_terms};
+use bed_check_heap::to_values;
 use bed_check_pure::Fault;
 use bed_deriv::choice::{all_different, atoms_left, chosen};
 use bed_deriv::matching::{count_of_atoms, has_goals_within, match_goals};
 use bed_deriv::read::read_terms;
-use bed_deriv::{DArg, Reading, SymState};
+use bed_deriv::{DArg, Reading, SymState, push_fresh};
 use bed_lang::{
-    Arg, Assertion, Atom, Bind, Decls, List, Name, Operand, Pure, Signature, Term, Tree, Word,
+    Arg, Assertion, Atom, Decls, List, Name, Operand, Pure, Signature, Term, Tree, Word,
 };
 use std::alloc::{AllocError, Global};
 
@@ -37,44 +37,14 @@ pub(crate) struct CallSite<'a> {
     pub(crate) after: &'a Assertion,
 }
 
-/// The signature of a name.
-pub(crate) fn signature_named<'a>(decls: &'a Decls, name: &Name) -> Option<&'a Signature>
-    ensures { option_copied result ≡ signature_named decls.now name.now.bytes }
-{
-    decls
-        .signatures
-        .as_slice()
-        .iter()
-        .find(|s| s.name.same(name))
-}
-
-fn label_signature<'a>(decls: &'a Decls, label: &Name) -> Option<&'a Name>
-    ensures { option_copied result ≡ label_signature decls.now label.now.bytes }
-{
-    match decls.labels.as_slice().iter().find(|l| l.0.same(label)) {
-        None => None,
-        Some(found) => Some(&found.1),
-    }
-}
-
-/// The signature of a label.
-pub(crate) fn declared_signature<'a>(decls: &'a Decls, label: &Name) -> Option<&'a Signature>
-    ensures { option_copied result ≡ named_signature decls.now (label_signature decls.now label.now.bytes) }
-{
-    match label_signature(decls, label) {
-        None => None,
-        Some(name) => signature_named(decls, name),
-    }
-}
-
 // The signature of a callee: the one that is named, or that of the label.
 fn callee<'a>(decls: &'a Decls, target: &Operand, via: &Option<Name>) -> Option<&'a Signature>
     ensures { option_copied result ≡ callee decls.now target.now via.now }
 {
     match via {
-        Some(name) => signature_named(decls, name),
+        Some(name) => decls.signature(name),
         None => match target {
-            Operand::Label(f) => declared_signature(decls, f),
+            Operand::Label(f) => decls.function_signature(f),
             _ => None,
         },
     }

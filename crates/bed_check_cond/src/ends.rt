@@ -10,10 +10,11 @@ ghost use Rattle.bed_deriv.specs.Steps.{names_with, old_word, finish, met};
 ghost use Rattle.bed_check_cond.specs.Points.{aim_goal, rest_of, ended, AnswersStep};
 ghost use Rattle.bed_check_cond.specs.Parts.{end_values, end_with, end_found, end_meets, met_terms, returned_terms, returned_end};
 
-use crate::calls::{declared_signature, has_goals, is_sum};
+use crate::calls::{has_goals, is_sum};
 use crate::operands::operand_term;
 use crate::point::{Aim, Point};
-use crate::values::{push_locals, push_old, to_values};
+use crate::values::{push_locals, push_old};
+use bed_check_heap::to_values;
 use bed_check_pure::Fault;
 use bed_deriv::choice::{all_different, atoms_left, chosen};
 use bed_deriv::matching::{count_of_atoms, match_goals};
@@ -256,7 +257,7 @@ pub(crate) fn finish(
     match at.ahead.aim {
         Aim::Behind(assertion) => meets(alloc, at, assertion, args, n),
         Aim::Whole(Goal::Meets(assertion)) => meets(alloc, at, assertion, args, n),
-        Aim::Whole(Goal::Returns(a)) => match declared_signature(decls, function) {
+        Aim::Whole(Goal::Returns(a)) => match decls.function_signature(function) {
             None => Err(Fault::Condition),
             Some(s) => returns(alloc, at, s, a, args, n),
         },

@@ -22,4 +22,5 @@ mod words;
 pub use bed_check_pure::Verdict;
 pub use instances::{Match, instance, instance_of_terms, match_terms};
 pub use step::{heap_step, state_rule};
+pub use values::to_values;
 pub use walk::children_walked;

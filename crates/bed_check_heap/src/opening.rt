@@ -1,12 +1,12 @@
 //! Assertions opened at the end of a state, their words and sequences written anew from their forms.
 ghost use Rattle.std.specs.Prelude.{◌≡◌, ◌<◌, ◌+◌, ◌++◌, ◌∷◌, [], IfOk, OnOk, length, map};
-ghost use Rattle.bed_deriv.specs.Opening.{fresh_value, fresh_values, alone, replaced_fact, replaced_atom, replaced_term, with_terms, opened_anew};
+ghost use Rattle.bed_deriv.specs.Opening.{fresh_values, alone, replaced_fact, replaced_atom, replaced_term, with_terms, opened_anew};
 ghost use Rattle.bed_deriv.specs.Readings.{instance_of};
 ghost use Rattle.bed_deriv.specs.HeapRules.{params_with};
 
 use bed_deriv::read::{read_atom_anew, read_fact_anew};
-use bed_deriv::{Reading, SymState};
-use bed_lang::{Arg, Assertion, Atom, Bind, List, Name, Pure, Seq, Sort, Term, Tree, Var, Word};
+use bed_deriv::{Reading, SymState, push_fresh};
+use bed_lang::{Arg, Assertion, Atom, Bind, List, Name, Pure, Term, Tree};
 use std::alloc::{AllocError, Global};
 
 // A name with its value, at the end of the others.
@@ -45,45 +45,6 @@ pub(crate) fn params_with(
         left = more;
     }
     Ok(out)
-}
-
-fn fresh_value(sort: Sort, number: u32) -> Arg
-    ensures { result ≡ fresh_value sort number }
-{
-    match sort {
-        Sort::Word => Arg::Word(0, Word::Var(Var::Fresh(number))),
-        Sort::Seq => Arg::Seq(0, Seq::Var(Var::Fresh(number))),
-    }
-}
-
-fn push_binder(
-    alloc: Global,
-    out: &mut List<(Name, Arg)>,
-    bind: &Bind,
-    number: u32,
-) -> Result<(), AllocError>
-    ensures { OnOk result (out.new ≡ out.old ++ (bind.now.name, fresh_value bind.now.sort number) ∷ []) }
-{
-    let name = bind.name.copy(alloc)?;
-    out.push((name, fresh_value(bind.sort, number)))
-}
-
-// Each binder with a fresh variable, from this number on.
-fn push_fresh(
-    alloc: Global,
-    out: &mut List<(Name, Arg)>,
-    binders: &[Bind],
-    next: u32,
-) -> Result<(), AllocError>
-    requires { next + length binders.now < 4294967296 }
-    ensures { OnOk result (out.new ≡ out.old ++ fresh_values binders.now next) }
-{
-    let mut number = next;
-    for binder in binders {
-        push_binder(alloc, out, binder, number)?;
-        number += 1;
-    }
-    Ok(())
 }
 
 // The values, and then the binders with fresh variables.

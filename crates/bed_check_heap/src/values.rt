@@ -120,7 +120,10 @@ fn push_first(
 
 /// Arguments as values of these variables, in order: each variable with its value. None where an argument
 /// is missing, is none of its variable's sort, or holds a fresh variable that the state doesn't have.
-pub(crate) fn to_values(
+///
+/// # Errors
+/// `AllocError` for want of memory.
+pub fn to_values(
     alloc: Global,
     s: &SymState,
     binds: &[Bind],

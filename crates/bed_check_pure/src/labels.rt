@@ -2,7 +2,6 @@
 ghost use Rattle.std.specs.Option.{option_copied};
 ghost use Rattle.std.specs.Prelude.{◌≡◌, IfOk};
 ghost use Rattle.bed_lang.specs.Forms.{word_form};
-ghost use Rattle.bed_lang.specs.Lookups.{label_signature};
 ghost use Rattle.bed_deriv.specs.Checks.{first_failure};
 ghost use Rattle.bed_deriv.specs.PureRules.{key_label, lone_label, form_label, is_name, has_signature, is_its_signature, label};
 ghost use Rattle.bed_check_pure.specs.Faults.{AnswersRule};
@@ -12,15 +11,6 @@ use bed_deriv::{DArg, Sequent};
 use bed_forms::{Key, word_form};
 use bed_lang::{Decls, Form, List, Name, Pure, Word};
 use std::alloc::{AllocError, Global};
-
-fn label_signature<'a>(decls: &'a Decls, label: &Name) -> Option<&'a Name>
-    ensures { option_copied result ≡ label_signature decls.now label.now.bytes }
-{
-    match decls.labels.as_slice().iter().find(|l| l.0.same(label)) {
-        None => None,
-        Some(found) => Some(&found.1),
-    }
-}
 
 fn key_label(key: &Key) -> Option<&Name>
     ensures { option_copied result ≡ key_label key.now }
@@ -75,7 +65,7 @@ fn has_signature(decls: &Decls, label: Option<&Name>, name: &Name) -> bool
 {
     match label {
         None => false,
-        Some(f) => is_name(label_signature(decls, f), name),
+        Some(f) => is_name(decls.label(f), name),
     }
 }
 

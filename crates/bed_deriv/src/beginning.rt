@@ -1,37 +1,15 @@
 //! The state that a condition opens.
 ghost use Rattle.std.specs.Prelude.{◌≡◌, ◌<◌, ◌-◌, ◌+◌, ◌++◌, ◌∷◌, [], IfOk, OnOk, IsTrue, length};
-ghost use Rattle.std.specs.Option.{option_copied};
 ghost use Rattle.bed_lang.specs.Instances.{terms_with};
-ghost use Rattle.bed_lang.specs.Lookups.{signature_named, label_signature, function_signature, count_of_params};
+ghost use Rattle.bed_lang.specs.Lookups.{function_signature, count_of_params};
 ghost use Rattle.bed_deriv.specs.Fresh.{IsKnownState, AreUnfresh, unfresh_condition, condition_size};
 ghost use Rattle.bed_deriv.specs.Opening.{arguments_of, first_locals, fresh_values, fresh_value, local_values, local_value, replacing, with_terms, opened_alone, started};
 
 use crate::read::{read_atom, read_fact};
 use crate::reading::Reading;
 use crate::state::SymState;
-use bed_lang::{
-    Arg, Assertion, Bind, Cond, Decls, List, Name, Seq, Signature, Sort, Term, Var, Word,
-};
+use bed_lang::{Arg, Assertion, Bind, Cond, Decls, List, Name, Seq, Sort, Term, Var, Word};
 use std::alloc::{AllocError, Global};
-
-fn signature_named<'a>(decls: &'a Decls, name: &Name) -> Option<&'a Signature>
-    ensures { option_copied result ≡ signature_named decls.now name.now.bytes }
-{
-    decls
-        .signatures
-        .as_slice()
-        .iter()
-        .find(|s| s.name.same(name))
-}
-
-fn label_signature<'a>(decls: &'a Decls, label: &Name) -> Option<&'a Name>
-    ensures { option_copied result ≡ label_signature decls.now label.now.bytes }
-{
-    match decls.labels.as_slice().iter().find(|l| l.0.same(label)) {
-        None => None,
-        Some(found) => Some(&found.1),
-    }
-}
 
 // How many locals of a condition have their values at entry.
 fn arguments_of(c: &Cond, decls: &Decls) -> usize
@@ -40,12 +18,9 @@ fn arguments_of(c: &Cond, decls: &Decls) -> usize
     if !c.entry {
         return 0;
     }
-    match label_signature(decls, &c.function) {
+    match decls.function_signature(&c.function) {
         None => 0,
-        Some(name) => match signature_named(decls, name) {
-            None => 0,
-            Some(signature) => signature.params.len(),
-        },
+        Some(signature) => signature.params.len(),
     }
 }
 
@@ -95,7 +70,8 @@ fn push_locals(
     Ok(())
 }
 
-fn fresh_value(sort: Sort, number: u32) -> Arg
+/// The fresh variable of a number, as a term of this sort.
+pub fn fresh_value(sort: Sort, number: u32) -> Arg
     ensures { result ≡ fresh_value sort number }
 {
     match sort {
@@ -104,8 +80,11 @@ fn fresh_value(sort: Sort, number: u32) -> Arg
     }
 }
 
-// Each binder with a fresh variable, from this number on.
-fn push_fresh(
+/// Each binder with a fresh variable, from this number on, at the end of the others.
+///
+/// # Errors
+/// `AllocError` for want of memory.
+pub fn push_fresh(
     alloc: Global,
     out: &mut List<(Name, Arg)>,
     binders: &[Bind],

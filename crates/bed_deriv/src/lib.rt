@@ -17,7 +17,7 @@ mod reading;
 mod rest;
 mod state;
 
-pub use beginning::start;
+pub use beginning::{fresh_value, push_fresh, start};
 pub use derivation::{DArg, Deriv, Edge, Rule};
 pub use facts::negation;
 pub use reading::{Reading, read_seq, read_word};

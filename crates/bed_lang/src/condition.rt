@@ -1,5 +1,7 @@
 //! Declarations, and the conditions that a module owes.
+ghost use Rattle.std.specs.Option.{option_copied};
 ghost use Rattle.std.specs.Prelude.{◌≡◌, IfOk};
+ghost use Rattle.bed_lang.specs.Lookups.{function_signature, label_signature, signature_named};
 ghost use Rattle.bed_lang.specs.Same.{same_decls, same_goal, same_placed, same_cond};
 
 use crate::logic::Assertion;
@@ -63,6 +65,36 @@ pub struct Cond {
 }
 
 impl Decls {
+    /// The signature of a name: of several that are declared the first.
+    pub fn signature(&self, name: &Name) -> Option<&Signature>
+        ensures { option_copied result ≡ signature_named self.now name.now.bytes }
+    {
+        self.signatures
+            .as_slice()
+            .iter()
+            .find(|s| s.name.same(name))
+    }
+
+    /// The name of the signature of an import or a function.
+    pub fn label(&self, label: &Name) -> Option<&Name>
+        ensures { option_copied result ≡ label_signature self.now label.now.bytes }
+    {
+        match self.labels.as_slice().iter().find(|l| l.0.same(label)) {
+            None => None,
+            Some(found) => Some(&found.1),
+        }
+    }
+
+    /// The signature of an import or a function, where both are declared.
+    pub fn function_signature(&self, label: &Name) -> Option<&Signature>
+        ensures { option_copied result ≡ function_signature self.now label.now }
+    {
+        match self.label(label) {
+            None => None,
+            Some(name) => self.signature(name),
+        }
+    }
+
     /// A copy, equal to the original.
     ///
     /// # Errors

@@ -20,5 +20,5 @@ pub use module::{
 };
 pub use sqlite_items::{Boxed as Box, Items as List};
 pub use statement::{Stmt, StmtKind};
-pub use tree::Tree;
+pub use tree::{Tree, both, four, three};
 pub use word::{Name, Seq, Sort, Text, Var, Word, substitute};

@@ -96,7 +96,7 @@ impl Tree for u32 {
 ///
 /// # Errors
 /// `AllocError` for want of memory.
-pub(crate) fn both<A: Tree, B: Tree>(alloc: Global, a: &A, b: &B) -> Result<(A, B), AllocError>
+pub fn both<A: Tree, B: Tree>(alloc: Global, a: &A, b: &B) -> Result<(A, B), AllocError>
     ensures { IfOk result (λ r. r ≡ (a.now, b.now)) }
 {
     match a.copied(alloc) {
@@ -112,7 +112,7 @@ pub(crate) fn both<A: Tree, B: Tree>(alloc: Global, a: &A, b: &B) -> Result<(A, 
 ///
 /// # Errors
 /// `AllocError` for want of memory.
-pub(crate) fn three<A: Tree, B: Tree, C: Tree>(
+pub fn three<A: Tree, B: Tree, C: Tree>(
     alloc: Global,
     a: &A,
     b: &B,
@@ -131,7 +131,7 @@ pub(crate) fn three<A: Tree, B: Tree, C: Tree>(
 ///
 /// # Errors
 /// `AllocError` for want of memory.
-pub(crate) fn four<A: Tree, B: Tree, C: Tree, D: Tree>(
+pub fn four<A: Tree, B: Tree, C: Tree, D: Tree>(
     alloc: Global,
     a: &A,
     b: &B,

@@ -8,7 +8,6 @@
 
 mod choices;
 mod conditions;
-mod copies;
 mod expanded;
 mod loops;
 mod macros;
@@ -19,7 +18,6 @@ mod skips;
 
 pub use choices::Choice;
 pub use conditions::{condition, meet, meet_at, push_condition};
-pub use copies::{both, three};
 pub use expanded::Expanded;
 pub use loops::Loop;
 pub use macros::Macro;

@@ -4,8 +4,7 @@ ghost use Rattle.std.specs.Prelude.{◌≡◌, ◌<◌, ◌++◌, [], ◌∷◌,
 ghost use Rattle.bed_sat.specs.Conditions.{path_from, then_action, placed, then_hint, then_using, turned as turned_test, negated as negated_test, where_true as true_path, where_false as false_path};
 ghost use Rattle.bed_macro.specs.Paths.{path_of};
 
-use crate::copies::{both, three};
-use bed_lang::{Action, Assertion, Hint, List, Operand, Placed, Rel, Test, Tree};
+use bed_lang::{Action, Assertion, Hint, List, Operand, Placed, Rel, Test, Tree, both, three};
 use std::alloc::{AllocError, Global};
 
 /// A path of a function, from an annotated point on.

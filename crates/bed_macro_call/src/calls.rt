@@ -10,9 +10,9 @@ ghost use Rattle.bed_macro_call.specs.CallStatements.{call_statement, call_falls
 
 use crate::instructions::{coming, leaving};
 use bed_il::{Block, Jump};
-use bed_lang::{Assertion, Cond, Goal, Hint, List, Name, Operand};
+use bed_lang::{Assertion, Cond, Goal, Hint, List, Name, Operand, both, three};
 use bed_machine::Reg;
-use bed_macro::{Macro, Path, Site, both, push_condition, three};
+use bed_macro::{Macro, Path, Site, push_condition};
 use std::alloc::{AllocError, Global};
 
 /// A call of a function, by its name or through a local that holds its address.

@@ -10,8 +10,8 @@ ghost use Rattle.bed_macro_data.specs.StatementLaws.{spans_one, assign_ends, ass
 
 use crate::instructions::{fetched, push_keep, push_row};
 use bed_il::{Block, Inst};
-use bed_lang::{Action, Cond, List, Name, Operand};
-use bed_macro::{Macro, Path, Site, both};
+use bed_lang::{Action, Cond, List, Name, Operand, both};
+use bed_macro::{Macro, Path, Site};
 use std::alloc::{AllocError, Global};
 
 /// A local becomes an operand.

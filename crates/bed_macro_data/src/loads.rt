@@ -9,8 +9,8 @@ ghost use Rattle.bed_macro_data.specs.StatementLaws.{load_spans, load_ends, load
 
 use crate::instructions::{fetched, push_kept, push_row};
 use bed_il::{Block, Inst};
-use bed_lang::{Action, Cond, List, Name, Place};
-use bed_macro::{Macro, Path, Site, both};
+use bed_lang::{Action, Cond, List, Name, Place, both};
+use bed_macro::{Macro, Path, Site};
 use std::alloc::{AllocError, Global};
 
 /// A local becomes the word or the byte at a place.

@@ -10,8 +10,8 @@ ghost use Rattle.bed_macro_data.specs.StatementLaws.{spans_one, compute_ends, co
 
 use crate::instructions::{push_kept, push_row};
 use bed_il::{Block, Inst};
-use bed_lang::{Action, Cond, List, Name, Op, Operand};
-use bed_macro::{Macro, Path, Site, three};
+use bed_lang::{Action, Cond, List, Name, Op, Operand, three};
+use bed_macro::{Macro, Path, Site};
 use std::alloc::{AllocError, Global};
 
 /// A local becomes the result of an operation.

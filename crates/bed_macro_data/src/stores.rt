@@ -8,8 +8,8 @@ ghost use Rattle.bed_macro_data.specs.StatementLaws.{store_spans, store_ends, st
 
 use crate::instructions::push_row;
 use bed_il::{Block, Inst};
-use bed_lang::{Action, Cond, List, Operand, Place};
-use bed_macro::{Macro, Path, Site, both};
+use bed_lang::{Action, Cond, List, Operand, Place, both};
+use bed_macro::{Macro, Path, Site};
 use std::alloc::{AllocError, Global};
 
 /// The word or the byte at a place becomes an operand.

@@ -6,8 +6,7 @@ ghost use Rattle.bed_sat.specs.Written.{statement as statement_of, made_test, li
 
 use crate::invariants::invariant;
 use crate::statements::{is_key, push_list_loop};
-use bed_lang::{Assertion, Join, List, Name, Operand, Seq, Stmt, StmtKind, Test};
-use bed_macro::both;
+use bed_lang::{Assertion, Join, List, Name, Operand, Seq, Stmt, StmtKind, Test, both};
 use std::alloc::{AllocError, Global};
 
 // Appends a copy of a statement.

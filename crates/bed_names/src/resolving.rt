@@ -1,6 +1,5 @@
 //! Modules without bare arguments: each name alone is the word or the sequence that its place asks for.
 
-mod copies;
 mod items;
 mod statements;
 mod terms;

@@ -7,11 +7,10 @@ ghost use Rattle.bed_names.specs.Resolved.{resolved_assertion, resolved_signatur
 
 use crate::declared::Declared;
 use crate::functions::{outer_in, outer_of};
-use crate::resolving::copies::both;
 use crate::resolving::statements::body;
 use crate::resolving::terms::assertion;
 use crate::visible::Outer;
-use bed_lang::{Assertion, Function, List, Module, Predicate, Signature, Stmt, Tree};
+use bed_lang::{Assertion, Function, List, Module, Predicate, Signature, Stmt, Tree, both};
 use std::alloc::{AllocError, Global};
 
 // The precondition and the postcondition.

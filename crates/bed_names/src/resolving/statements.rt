@@ -2,10 +2,9 @@
 ghost use Rattle.std.specs.Prelude.{◌≡◌, IfOk, map};
 ghost use Rattle.bed_names.specs.Resolved.{resolved_hint, resolved_assertion, resolved_keep, resolved_join, resolved_kind, resolved_stmt};
 
-use crate::resolving::copies::both;
 use crate::resolving::terms::{assertion, hint, hints, kept};
 use crate::visible::Outer;
-use bed_lang::{Assertion, Hint, Join, List, Name, Operand, Seq, Stmt, StmtKind, Test, Tree};
+use bed_lang::{Assertion, Hint, Join, List, Name, Operand, Seq, Stmt, StmtKind, Test, Tree, both};
 use std::alloc::{AllocError, Global};
 
 fn join(alloc: Global, outer: &Outer, join: &Option<Join>) -> Result<Option<Join>, AllocError>
