@@ -226,8 +226,8 @@ fn goal_walked(
 ///
 /// # Errors
 /// `Reject` exactly where one of them is refused: the first node in preorder that is no instance of its
-/// rule, with its first failing premise. `Memory` for want of memory, and where there are more than
-/// 4294967295 nodes.
+/// rule, with its first failing premise. `Memory` for want of memory, and where there are
+/// 4294967295 nodes or more.
 pub(crate) fn children_walked(
     alloc: Global,
     decls: &Decls,

@@ -219,7 +219,7 @@ fn named_terms(
 /// # Errors
 /// `Reject` exactly where the node is no such match or one in its first children is no instance of its
 /// rule: the first in preorder from 1, with its first failing premise. `Memory` for want of memory, and
-/// where there are more than 4294967295 nodes.
+/// where there are 4294967295 nodes or more.
 pub fn instance(
     alloc: Global,
     decls: &Decls,

@@ -144,8 +144,8 @@ fn checked_node(
 ///
 /// # Errors
 /// `Reject` exactly where the node or one in its first children is no instance of its rule: the first in
-/// preorder from 1, with its first failing premise. `Memory` for want of memory, and where there are more
-/// than 4294967295 nodes.
+/// preorder from 1, with its first failing premise. `Memory` for want of memory, and where there are
+/// 4294967295 nodes or more.
 pub fn heap_step(
     alloc: Global,
     decls: &Decls,

@@ -32,8 +32,8 @@ use Rattle.bed_il.specs.Bytes.{ins_of, insts_bytes, jump_bytes, block_bytes, oth
 use Rattle.bed_laws.specs.Activations.{FunctionSite, Activation}
 use Rattle.bed_laws.specs.Keeps.{LoopHead}
 use Rattle.bed_laws.proofs.StraightLaws.{after_inst, effect_place, get_middle, get_end}
-use Rattle.bed_layout.proofs.CodeLemmas.{HasAt, has_front, has_back, begins_at, positive, in_code_at}
-use Rattle.bed_layout.proofs.RunLemmas.{FineFor, fine_then}
+use Rattle.bed_sat.proofs.LaidLaws.{HasAt, has_front, has_back, begins_at, positive, in_code_at}
+use Rattle.bed_sat.proofs.RunLaws.{FineFor, fine_then}
 use Rattle.bed_layout.proofs.InstructionLemmas.{Untouched, state_of, word_ins, word_row, IsSmall, word_allowed, one_step, known, test_second}
 use Rattle.bed_layout.proofs.HeadLemmas.{head_state}
 use Rattle.bed_layout.proofs.PlaceLemmas.{IsBusy}

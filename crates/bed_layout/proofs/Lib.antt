@@ -1,5 +1,3 @@
-mod CodeLemmas
-mod RunLemmas
 mod InstructionLemmas
 mod HeadLemmas
 mod WholeLemmas

@@ -12,7 +12,7 @@ use Rattle.bed_il.specs.Places.{inst_size, insts_size, jump_size, block_size, bl
 use Rattle.bed_il.specs.Fit.{AreDistinct, first_label, GoesOn, AllGoOn}
 use Rattle.bed_il.proofs.PlaceLaws.{block_size_is, place_first, place_other}
 use Rattle.bed_machine.proofs.InstructionLaws.{row_size}
-use Rattle.bed_layout.proofs.CodeLemmas.{HasAt, has_front, has_back}
+use Rattle.bed_sat.proofs.LaidLaws.{HasAt, has_front, has_back}
 
 pub some_same : {A : Type 0} {x y : A} → ◌≡◌ {A = Option A} (Some x) (Some y) → x ≡ y
 some_same e = cc

@@ -21,7 +21,7 @@ use Rattle.bed_laws.specs.Activations.{FunctionSite}
 use Rattle.bed_laws.specs.Keeps.{LoopHead}
 use Rattle.bed_layout.specs.Functions.{BlockFunction, places_in, function_bytes, code_bytes, StandFrom}
 use Rattle.bed_layout.specs.Placed.{IsPlaced}
-use Rattle.bed_layout.proofs.CodeLemmas.{HasAt, has_front, has_back, end_at}
+use Rattle.bed_sat.proofs.LaidLaws.{HasAt, has_front, has_back, end_at}
 use Rattle.bed_layout.proofs.InstructionLemmas.{IsSmall}
 use Rattle.bed_layout.proofs.PlaceLemmas.{some_same, none_some, IsBusy, found_among, block_has, place_low, rank_of, After, GoesOnAt, after_next, marked_positive, only_place, place_within, inside_not, inside_within, label_within, next_within}
 use Rattle.bed_layout.proofs.MoveLemmas.{back_named, return_named, jump_named, call_named, within_named, calls_named}

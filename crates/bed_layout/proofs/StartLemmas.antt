@@ -17,7 +17,7 @@ use Rattle.bed_il.specs.BlockMachine.{BlockState, Calls, il_move, at_label, bloc
 use Rattle.bed_laws.specs.Activations.{FunctionSite}
 use Rattle.bed_laws.specs.Keeps.{LoopHead, IsAnswer}
 use Rattle.bed_layout.specs.Keeping.{KeepsFunction}
-use Rattle.bed_layout.proofs.RunLemmas.{fine_run, fine_over}
+use Rattle.bed_sat.proofs.RunLaws.{fine_run, fine_over}
 use Rattle.bed_layout.proofs.InstructionLemmas.{state_of}
 use Rattle.bed_layout.proofs.WholeLemmas.{Machine, function_well}
 use Rattle.bed_layout.proofs.ByteLemmas.{Layout, u, For, Shows, Jumped, HereEntered, shows_start, within, returns, calls, back_of}

@@ -2,9 +2,9 @@ pub mod PartLaws
 pub mod CellLaws
 pub mod BlockLaws
 pub mod SatLaws
-mod RunLaws
+pub mod RunLaws
 pub mod FrameLaws
-mod LaidLaws
+pub mod LaidLaws
 mod ReturnLaws
 pub mod ScopeLaws
 pub mod SameLaws
