@@ -229,7 +229,7 @@ fn marked(text: &[u8]) -> Front
 
 /// What stands at the front of a text.
 #[tactic(auto, unfolding(crate::specs::Tokens::front_of))]
-pub(crate) fn find_front(text: &[u8]) -> Front
+pub fn find_front(text: &[u8]) -> Front
     ensures exact { result ≡ front_of text.now }
     ensures sized { Advances result (length text.now) }
 {

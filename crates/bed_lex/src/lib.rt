@@ -5,7 +5,7 @@ mod front;
 mod lexing;
 mod token;
 
-pub use front::{Front, digits, fixed, letter, name_byte};
+pub use front::{Front, digits, find_front, fixed, letter, name_byte};
 pub use lexing::{
     Scanned, has_a_scan, has_one_scan, has_word_numbers, scan, takes_longest_mark, tokens,
 };
