@@ -14,8 +14,8 @@ mod MemoryExamples
 mod ProgramExamples
 mod ComparisonLaws
 pub mod InstanceLaws
-mod SignatureLaws
-mod ExtensionLaws
+pub mod SignatureLaws
+pub mod ExtensionLaws
 mod StartLaws
 pub mod LinkingLaws
 pub mod ConditionLaws
