@@ -52,7 +52,7 @@ found p (y ∷ xs) x e = by (p y) refl e (λ more. found p xs x more)
     by false is e more = let r = more e in (Contains-append_right (y ∷ []) xs x r.0, r.1)
 
 -- and something is found where an item passes
-finds : {A : Type 0} (p : A → Bool) (xs : List A) (x : A) → Contains xs x → IsTrue (p x) → (y : A) × (find p xs ≡ Some y)
+pub finds : {A : Type 0} (p : A → Bool) (xs : List A) (x : A) → Contains xs x → IsTrue (p x) → (y : A) × (find p xs ≡ Some y)
 finds p [] x (k, lt, e) is = absurd (omega arith)
 finds p (y ∷ xs) x (zero, lt, e) is = by (p y) refl
   where
@@ -82,7 +82,7 @@ both_named x y n a b = subst (λ z. IsTrue (bytes_eq x z)) (sym (bytes_eq_is y n
 
 -- ---- the declarations of a module are among those of all
 
-signature_among : (ms : List Module) (m : Module) (S : Signature) → Contains ms m → Contains m.signatures S → Contains (all_signatures ms) S
+pub signature_among : (ms : List Module) (m : Module) (S : Signature) → Contains ms m → Contains m.signatures S → Contains (all_signatures ms) S
 signature_among [] m S (k, lt, e) h = absurd (omega arith)
 signature_among (n ∷ ms) m S (zero, lt, e) h = Contains-append_left n.signatures (all_signatures ms) S (subst (λ k. Contains k.signatures S) (sym e) h)
 signature_among (n ∷ ms) m S (suc k, lt, e) h = Contains-append_right n.signatures (all_signatures ms) S (signature_among ms m S (k, omega arith, e) h)
@@ -92,7 +92,7 @@ predicate_among [] m p (k, lt, e) h = absurd (omega arith)
 predicate_among (n ∷ ms) m p (zero, lt, e) h = Contains-append_left n.predicates (all_predicates ms) p (subst (λ k. Contains k.predicates p) (sym e) h)
 predicate_among (n ∷ ms) m p (suc k, lt, e) h = Contains-append_right n.predicates (all_predicates ms) p (predicate_among ms m p (k, omega arith, e) h)
 
-label_among : (ms : List Module) (m : Module) (l : Name × Name) → Contains ms m → Contains (labels_of m) l → Contains (all_labels ms) l
+pub label_among : (ms : List Module) (m : Module) (l : Name × Name) → Contains ms m → Contains (labels_of m) l → Contains (all_labels ms) l
 label_among [] m l (k, lt, e) h = absurd (omega arith)
 label_among (n ∷ ms) m l (zero, lt, e) h = Contains-append_left (labels_of n) (all_labels ms) l (subst (λ k. Contains (labels_of k) l) (sym e) h)
 label_among (n ∷ ms) m l (suc k, lt, e) h = Contains-append_right (labels_of n) (all_labels ms) l (label_among ms m l (k, omega arith, e) h)
@@ -257,7 +257,7 @@ grows_to (Some S) None f = let r = f S refl in absurd (let e : ◌≡◌ {A = Op
 grows_to (Some S) (Some T) f = let r = f S refl in subst (λ z. IsTrue (same_signature S z)) (sym (some_same r.1)) r.2
 
 -- names that are the same have the same values
-names_map : (g : List ℕ → ℕ) (xs ys : List Name) → IsTrue (pointwise same_name xs ys) → map (λ x. g x.bytes) xs ≡ map (λ x. g x.bytes) ys
+pub names_map : (g : List ℕ → ℕ) (xs ys : List Name) → IsTrue (pointwise same_name xs ys) → map (λ x. g x.bytes) xs ≡ map (λ x. g x.bytes) ys
 names_map g [] [] is = refl
 names_map g (x ∷ xs) (y ∷ ys) is =
     let h = and_parts (same_name x y) _ is in
