@@ -1,0 +1,5 @@
+mod LowerLemmas
+mod OwedLemmas
+mod SameLemmas
+mod ReadyLemmas
+pub mod ProgramLaws
