@@ -36,39 +36,49 @@ module _ (forms : List Form) (value : Form → ℕ)
   carried_solves facts hold = record { alike = alike'; facts_hold = hold; constants = constants'; least = least'; largest = largest' } where
     at_zero : carry forms value zero_form ≡ value zero_form
     at_zero = inside zero_form has_zero
+
     at_top : carry forms value top_form ≡ value top_form
     at_top = inside top_form has_top
+
     alike' : (f g : Form) → same_form f g ≡ true → carry forms value f ≡ carry forms value g
     alike' f g e = by (has_form f forms) refl where
       t : (has_form f forms ≡ has_form g forms) × (is_constant f ≡ is_constant g) × (f.constant ≡ g.constant)
       t = together f g e
+
       out : outside (value zero_form) f ≡ outside (value zero_form) g
       out = ap (λ b. if b && nat_lt f.constant 4294967296 then value zero_form + f.constant else value zero_form) t.1
           ∙ ap (λ n. if is_constant g && nat_lt n 4294967296 then value zero_form + n else value zero_form) t.2
+
       by : (b : Bool) → has_form f forms ≡ b → carry forms value f ≡ carry forms value g
       by true is = inside f is ∙ alike f g e ∙ sym (inside g (sym t.0 ∙ is))
       by false is = ap (λ b. if b then value f else outside (value zero_form) f) is ∙ out ∙ sym (ap (λ b. if b then value g else outside (value zero_form) g) (sym t.0 ∙ is))
+
     away : (f : Form) → has_form f forms ≡ false → carry forms value f ≡ outside (value zero_form) f
     away f is = ap (λ b. if b then value f else outside (value zero_form) f) is
+
     bounds : (f : Form) → (value zero_form ≤ outside (value zero_form) f) × (outside (value zero_form) f ≤ value zero_form + 4294967295)
     bounds f = by (is_constant f && nat_lt f.constant 4294967296) refl where
       by : (b : Bool) → (is_constant f && nat_lt f.constant 4294967296) ≡ b
           → (value zero_form ≤ (if b then value zero_form + f.constant else value zero_form)) × ((if b then value zero_form + f.constant else value zero_form) ≤ value zero_form + 4294967295)
       by true is = let k = and_parts (is_constant f) (nat_lt f.constant 4294967296) is in let l = ltb-true f.constant 4294967296 k.1 in (omega arith, omega arith)
       by false is = (omega arith, omega arith)
+
     constants' : (f : Form) → f.constant < 4294967296 → is_constant f ≡ true → carry forms value f ≡ carry forms value zero_form + f.constant
     constants' f small is = by (has_form f forms) refl where
       test : nat_lt f.constant 4294967296 ≡ true
       test = lt-ltb f.constant 4294967296 small
+
       by : (b : Bool) → has_form f forms ≡ b → carry forms value f ≡ carry forms value zero_form + f.constant
       by true in' = let a = inside f in' in let b = constants f in' is in let c = at_zero in omega arith
       by false out = away f out ∙ ap (λ b. if b && nat_lt f.constant 4294967296 then value zero_form + f.constant else value zero_form) is
           ∙ ap (λ b. if b then value zero_form + f.constant else value zero_form) test ∙ ap (λ n. n + f.constant) (sym at_zero)
+
     least' : (f : Form) → carry forms value zero_form ≤ carry forms value f
     least' f = by (has_form f forms) refl where
       by : (b : Bool) → has_form f forms ≡ b → carry forms value zero_form ≤ carry forms value f
       by true in' = let a = inside f in' in let b = least f in' in let c = at_zero in omega arith
       by false out = let a = away f out in let b = bounds f in let c = at_zero in omega arith
+
     largest' : (f : Form) → f.constant < 4294967296 → carry forms value f ≤ carry forms value top_form
     largest' f small = by (has_form f forms) refl where
       by : (b : Bool) → has_form f forms ≡ b → carry forms value f ≤ carry forms value top_form

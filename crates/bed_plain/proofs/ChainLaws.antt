@@ -68,9 +68,13 @@ module _ (s : SymState) (v : Form → ℕ) (solves : Solves s.facts v) where
   by_fact i f go_on qs tells e =
       let (p, at, e2) = given_ok 2 (numbered s.facts i) (λ p. Given 3 (f p) go_on) qs e in
       let (l, is, e3) = given_ok 3 (f p) go_on qs e2 in
-      let told = tells p (solves.facts_hold i p at) in
-      (l, subst (LegHolds v) is told.0, subst EndIsSmall is told.1, e3,
-      λ h rs e4. given_so 2 (numbered s.facts i) (λ p. Given 3 (f p) h) p rs at (given_so 3 (f p) h l rs is e4))
+      let told = tells p (solves.facts_hold i p at) in (
+        l,
+        subst (LegHolds v) is told.0,
+        subst EndIsSmall is told.1,
+        e3,
+        λ h rs e4. given_so 2 (numbered s.facts i) (λ p. Given 3 (f p) h) p rs at (given_so 3 (f p) h l rs is e4),
+      )
 
   f_tells : Tells forth
   f_tells (Less a b) h = (h.by_f, (small_form a, small_form b))
@@ -132,9 +136,13 @@ module _ (s : SymState) (v : Form → ℕ) (solves : Solves s.facts v) where
   leads node small (S i) go_on qs e = by_fact i from_one_less go_on qs s_tells e
   leads node small (K n) go_on qs e =
       let l : Leg = record { from = node; to = word_form (Number n); up = node.constant - wrap n; down = wrap n - node.constant } in
-      let (constant, e2) = needs_ok 3 (is_constant node) (go_on l) qs e in
-      (l, (let at = solves.constants node small constant in let to = v_number n in omega arith), (small, small_form (Number n)), e2,
-      λ h rs e3. needs_so 3 (is_constant node) (h l) rs constant e3)
+      let (constant, e2) = needs_ok 3 (is_constant node) (go_on l) qs e in (
+        l,
+        (let at = solves.constants node small constant in let to = v_number n in omega arith),
+        (small, small_form (Number n)),
+        e2,
+        λ h rs e3. needs_so 3 (is_constant node) (h l) rs constant e3,
+      )
   leads node small (Z w) go_on qs e =
       (leg (Number 0) w 0 0, (let o = solves.least (word_form w) in omega arith), (small_form (Number 0), small_form w), e, λ h rs e3. e3)
   leads node small H go_on qs e =
@@ -155,9 +163,14 @@ module _ (s : SymState) (v : Form → ℕ) (solves : Solves s.facts v) where
       let (l, holds, small', e2, other) = leads node small x (after go_on) qs e in
       let (same, e3) = needs_ok 3 (same_form l.from node) (legs s es l.to (up + l.up) (down + l.down) go_on) qs e2 in
       let (last, u, w, far, e4, others) = reaches es l.to (up + l.up) (down + l.down) go_on qs small'.1 e3 in
-      let alike = solves.alike l.from node same in
-      (last, u, w, omega arith, e4,
-      λ h rs e5. other (after h) rs (needs_so 3 (same_form l.from node) (legs s es l.to (up + l.up) (down + l.down) h) rs same (others h rs e5)))
+      let alike = solves.alike l.from node same in (
+        last,
+        u,
+        w,
+        omega arith,
+        e4,
+        λ h rs e5. other (after h) rs (needs_so 3 (same_form l.from node) (legs s es l.to (up + l.up) (down + l.down) h) rs same (others h rs e5)),
+      )
   reaches (given.Number m ∷ es) node up down go_on qs small e = absurd (cc)
   reaches (given.Arg a ∷ es) node up down go_on qs small e = absurd (cc)
   reaches (given.Pure p ∷ es) node up down go_on qs small e = absurd (cc)

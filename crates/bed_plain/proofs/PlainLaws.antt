@@ -71,10 +71,12 @@ module _ {T : Type 0} (table : Table T) where
   pub node_accepted : (r : Rule) (x : T) (args : List DArg) (xs : List T) (ts : List Deriv) → table r x args (length ts) ≡ Ok xs → AllOf IsAccepted xs ts
       → IsAccepted x (node r args ts)
   node_accepted r x args xs ts is all n =
-      let (m, walked) = all_accepted xs ts all (n + 1) in
-      (m, ap (λ (w : Walk T). w x n) (fold-roll-Deriv (Walk T) (walk_step table) (record { rule = r; args = args; children = ts }))
-      ∙ ap (λ (o : Result (List T) ℕ). walk_below o (map (walk table) ts) n) (ap (table r x args) (same_count ts) ∙ is)
-      ∙ walked)
+      let (m, walked) = all_accepted xs ts all (n + 1) in (
+        m,
+        ap (λ (w : Walk T). w x n) (fold-roll-Deriv (Walk T) (walk_step table) (record { rule = r; args = args; children = ts }))
+            ∙ ap (λ (o : Result (List T) ℕ). walk_below o (map (walk table) ts) n) (ap (table r x args) (same_count ts) ∙ is)
+            ∙ walked,
+      )
 
 -- ---- steps of solving
 
