@@ -1,7 +1,8 @@
 //! `x <- call t(a, b) using hints after assertion`.
 
-ghost use Rattle.std.specs.Prelude.{◌≡◌, ◌+◌, ◌++◌, ◌∷◌, [], IsSome, IfOk, OnOk, OnErr, true, refl};
-ghost use Rattle.bed_laws.specs.Activations.{IsAmong};
+ghost use Rattle.std.specs.Prelude.{◌≡◌, ◌↔◌, ◌+◌, ◌++◌, ◌∷◌, [], IsSome, IfOk, OnOk, OnErr, true, refl};
+ghost use Rattle.bed_lang.specs.declared.condition.Decls.{Decls};
+ghost use Rattle.bed_laws.specs.Activations.{FunctionSite, IsAmong};
 ghost use Rattle.bed_laws.specs.StatementBlocks.{IsKnown, leave_block, back_block, call_blocks};
 ghost use Rattle.bed_laws.proofs.CallLaws.{AreKnown};
 ghost use Rattle.bed_macro.specs.Sites.{function_of, locals_in};
@@ -38,13 +39,12 @@ impl Call {
         hints: List<Hint>,
         after: Assertion,
     ) -> Call
-        ensures at { result.at ≡ at }
-        ensures into { result.into ≡ into }
-        ensures target { result.target ≡ target }
-        ensures via { result.via ≡ via }
-        ensures args { result.args ≡ args }
-        ensures hints { result.hints ≡ hints }
-        ensures after { result.after ≡ after }
+        ensures stands { ⟦<Call as Macro>⟧.stands result ≡ call_statement at 0 into target via args hints after ∷ [] }
+        ensures count { ⟦<Call as Macro>⟧.count result ≡ 2 }
+        ensures comes { ⟦<Call as Macro>⟧.comes result ≡ true }
+        ensures code { ⟦<Call as Macro>⟧.code result ≡ (λ locals label next. call_blocks locals into target args label next) }
+        ensures heads { ⟦<Call as Macro>⟧.heads result ≡ (λ label. []) }
+        ensures fits { (d : Decls) (c : FunctionSite) → ⟦<Call as Macro>⟧.fits result d c ↔ (IsAmong c.site.locals into.bytes × IsKnown c.site.locals target × AreKnown c.site.locals args × HasRoom d c target via) }
     {
         Call {
             at,

@@ -1,8 +1,9 @@
 //! `x <- a`.
 
-ghost use Rattle.std.specs.Prelude.{◌≡◌, ◌+◌, ◌∷◌, [], IsSome, IfOk, true, refl};
+ghost use Rattle.std.specs.Prelude.{◌≡◌, ◌↔◌, ◌+◌, ◌∷◌, [], IsSome, IfOk, true, refl};
+ghost use Rattle.bed_lang.specs.declared.condition.Decls.{Decls};
 ghost use Rattle.bed_lang.specs.declared.statement.StmtKind.{Assign as AssignKind};
-ghost use Rattle.bed_laws.specs.Activations.{IsAmong};
+ghost use Rattle.bed_laws.specs.Activations.{FunctionSite, IsAmong};
 ghost use Rattle.bed_laws.specs.StatementBlocks.{IsKnown, assign_block};
 ghost use Rattle.bed_macro.specs.Sites.{function_of, locals_in};
 ghost use Rattle.bed_macro_data.specs.Kinds.{statement};
@@ -24,8 +25,12 @@ pub struct Assign {
 impl Assign {
     /// `into <- a`.
     pub fn new(into: Name, a: Operand) -> Assign
-        ensures into { result.into ≡ into }
-        ensures a { result.a ≡ a }
+        ensures stands { ⟦<Assign as Macro>⟧.stands result ≡ statement 0 (AssignKind into a) ∷ [] }
+        ensures count { ⟦<Assign as Macro>⟧.count result ≡ 1 }
+        ensures comes { ⟦<Assign as Macro>⟧.comes result ≡ true }
+        ensures code { ⟦<Assign as Macro>⟧.code result ≡ (λ locals label next. assign_block locals into a label next ∷ []) }
+        ensures heads { ⟦<Assign as Macro>⟧.heads result ≡ (λ label. []) }
+        ensures fits { (d : Decls) (c : FunctionSite) → ⟦<Assign as Macro>⟧.fits result d c ↔ (IsAmong c.site.locals into.bytes × IsKnown c.site.locals a) }
     {
         Assign { into, a }
     }

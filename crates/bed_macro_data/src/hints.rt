@@ -1,7 +1,9 @@
 //! `hint h`.
 
-ghost use Rattle.std.specs.Prelude.{◌≡◌, ◌+◌, ◌∷◌, [], true, refl};
+ghost use Rattle.std.specs.Prelude.{◌≡◌, ◌↔◌, ◌+◌, ◌∷◌, [], true, refl};
+ghost use Rattle.bed_lang.specs.declared.condition.Decls.{Decls};
 ghost use Rattle.bed_lang.specs.declared.statement.StmtKind.{Hint as HintKind};
+ghost use Rattle.bed_laws.specs.Activations.{FunctionSite};
 ghost use Rattle.bed_laws.specs.StatementBlocks.{empty_block};
 ghost use Rattle.bed_macro_data.specs.Kinds.{statement};
 ghost use Rattle.bed_macro_data.specs.StatementLaws.{spans_one, hint_ends, hint_keeps, hint_lay, hint_falls};
@@ -22,7 +24,12 @@ pub struct Hinted {
 impl Hinted {
     /// `hint h`.
     pub fn new(hint: Hint) -> Hinted
-        ensures { result.hint ≡ hint }
+        ensures stands { ⟦<Hinted as Macro>⟧.stands result ≡ statement 0 (HintKind hint) ∷ [] }
+        ensures count { ⟦<Hinted as Macro>⟧.count result ≡ 1 }
+        ensures comes { ⟦<Hinted as Macro>⟧.comes result ≡ true }
+        ensures code { ⟦<Hinted as Macro>⟧.code result ≡ (λ locals label next. empty_block label next ∷ []) }
+        ensures heads { ⟦<Hinted as Macro>⟧.heads result ≡ (λ label. []) }
+        ensures fits { (d : Decls) (c : FunctionSite) → ⟦<Hinted as Macro>⟧.fits result d c ↔ Unit {0} }
     {
         Hinted { hint }
     }

@@ -1,7 +1,8 @@
 //! `x <- [a + k]` and `x <- byte [a + k]`.
 
-ghost use Rattle.std.specs.Prelude.{◌≡◌, ◌+◌, ◌∷◌, [], IsSome, IfOk, if◌then◌else◌, true, refl};
-ghost use Rattle.bed_laws.specs.Activations.{IsAmong};
+ghost use Rattle.std.specs.Prelude.{◌≡◌, ◌↔◌, ◌+◌, ◌∷◌, [], IsSome, IfOk, if◌then◌else◌, true, refl};
+ghost use Rattle.bed_lang.specs.declared.condition.Decls.{Decls};
+ghost use Rattle.bed_laws.specs.Activations.{FunctionSite, IsAmong};
 ghost use Rattle.bed_laws.specs.StatementBlocks.{IsKnown};
 ghost use Rattle.bed_macro.specs.Sites.{function_of, locals_in};
 ghost use Rattle.bed_macro_data.specs.Kinds.{statement, load_kind, load_action, load_block};
@@ -24,9 +25,12 @@ pub struct LoadFrom {
 impl LoadFrom {
     /// `into <- [from]`, or `into <- byte [from]` where `byte` is true.
     pub fn new(into: Name, from: Place, byte: bool) -> LoadFrom
-        ensures into { result.into ≡ into }
-        ensures from { result.from ≡ from }
-        ensures byte { result.byte ≡ byte }
+        ensures stands { ⟦<LoadFrom as Macro>⟧.stands result ≡ statement 0 (load_kind byte into from) ∷ [] }
+        ensures count { ⟦<LoadFrom as Macro>⟧.count result ≡ 1 }
+        ensures comes { ⟦<LoadFrom as Macro>⟧.comes result ≡ true }
+        ensures code { ⟦<LoadFrom as Macro>⟧.code result ≡ (λ locals label next. load_block locals byte into from label next ∷ []) }
+        ensures heads { ⟦<LoadFrom as Macro>⟧.heads result ≡ (λ label. []) }
+        ensures fits { (d : Decls) (c : FunctionSite) → ⟦<LoadFrom as Macro>⟧.fits result d c ↔ (IsAmong c.site.locals into.bytes × IsKnown c.site.locals from.base) }
     {
         LoadFrom { into, from, byte }
     }

@@ -1,8 +1,9 @@
 //! `x <- a op b`.
 
-ghost use Rattle.std.specs.Prelude.{◌≡◌, ◌+◌, ◌∷◌, [], IsSome, IfOk, true, refl};
+ghost use Rattle.std.specs.Prelude.{◌≡◌, ◌↔◌, ◌+◌, ◌∷◌, [], IsSome, IfOk, true, refl};
+ghost use Rattle.bed_lang.specs.declared.condition.Decls.{Decls};
 ghost use Rattle.bed_lang.specs.declared.statement.StmtKind.{Compute as ComputeKind};
-ghost use Rattle.bed_laws.specs.Activations.{IsAmong};
+ghost use Rattle.bed_laws.specs.Activations.{FunctionSite, IsAmong};
 ghost use Rattle.bed_laws.specs.StatementBlocks.{IsKnown, compute_block};
 ghost use Rattle.bed_macro.specs.Sites.{function_of, locals_in};
 ghost use Rattle.bed_macro_data.specs.Kinds.{statement};
@@ -26,10 +27,12 @@ pub struct Compute {
 impl Compute {
     /// `into <- a op b`.
     pub fn new(into: Name, op: Op, a: Operand, b: Operand) -> Compute
-        ensures into { result.into ≡ into }
-        ensures op { result.op ≡ op }
-        ensures a { result.a ≡ a }
-        ensures b { result.b ≡ b }
+        ensures stands { ⟦<Compute as Macro>⟧.stands result ≡ statement 0 (ComputeKind into op a b) ∷ [] }
+        ensures count { ⟦<Compute as Macro>⟧.count result ≡ 1 }
+        ensures comes { ⟦<Compute as Macro>⟧.comes result ≡ true }
+        ensures code { ⟦<Compute as Macro>⟧.code result ≡ (λ locals label next. compute_block locals into op a b label next ∷ []) }
+        ensures heads { ⟦<Compute as Macro>⟧.heads result ≡ (λ label. []) }
+        ensures fits { (d : Decls) (c : FunctionSite) → ⟦<Compute as Macro>⟧.fits result d c ↔ (IsAmong c.site.locals into.bytes × IsKnown c.site.locals a × IsKnown c.site.locals b) }
     {
         Compute { into, op, a, b }
     }

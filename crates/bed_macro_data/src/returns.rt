@@ -1,7 +1,9 @@
 //! `return a`.
 
-ghost use Rattle.std.specs.Prelude.{◌≡◌, ◌+◌, ◌++◌, ◌∷◌, [], IsSome, IfOk, OnOk, OnErr, false, refl};
+ghost use Rattle.std.specs.Prelude.{◌≡◌, ◌↔◌, ◌+◌, ◌++◌, ◌∷◌, [], IsSome, IfOk, OnOk, OnErr, false, refl};
+ghost use Rattle.bed_lang.specs.declared.condition.Decls.{Decls};
 ghost use Rattle.bed_lang.specs.declared.statement.StmtKind.{Return as ReturnKind};
+ghost use Rattle.bed_laws.specs.Activations.{FunctionSite};
 ghost use Rattle.bed_laws.specs.StatementBlocks.{IsKnown, return_block};
 ghost use Rattle.bed_macro.specs.Sites.{function_of, locals_in};
 ghost use Rattle.bed_macro_data.specs.Kinds.{statement};
@@ -24,8 +26,12 @@ pub struct Return {
 impl Return {
     /// `return a`; its condition has the place `at`.
     pub fn new(at: u32, a: Operand) -> Return
-        ensures at { result.at ≡ at }
-        ensures a { result.a ≡ a }
+        ensures stands { ⟦<Return as Macro>⟧.stands result ≡ statement at (ReturnKind a) ∷ [] }
+        ensures count { ⟦<Return as Macro>⟧.count result ≡ 1 }
+        ensures comes { ⟦<Return as Macro>⟧.comes result ≡ false }
+        ensures code { ⟦<Return as Macro>⟧.code result ≡ (λ locals label next. return_block locals a label ∷ []) }
+        ensures heads { ⟦<Return as Macro>⟧.heads result ≡ (λ label. []) }
+        ensures fits { (d : Decls) (c : FunctionSite) → ⟦<Return as Macro>⟧.fits result d c ↔ IsKnown c.site.locals a }
     {
         Return { at, a }
     }

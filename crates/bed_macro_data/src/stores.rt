@@ -1,6 +1,8 @@
 //! `[a + k] <- b` and `byte [a + k] <- b`.
 
-ghost use Rattle.std.specs.Prelude.{◌≡◌, ◌+◌, ◌∷◌, [], IsSome, IfOk, if◌then◌else◌, true, refl};
+ghost use Rattle.std.specs.Prelude.{◌≡◌, ◌↔◌, ◌+◌, ◌∷◌, [], IsSome, IfOk, if◌then◌else◌, true, refl};
+ghost use Rattle.bed_lang.specs.declared.condition.Decls.{Decls};
+ghost use Rattle.bed_laws.specs.Activations.{FunctionSite};
 ghost use Rattle.bed_laws.specs.StatementBlocks.{IsKnown};
 ghost use Rattle.bed_macro.specs.Sites.{function_of, locals_in};
 ghost use Rattle.bed_macro_data.specs.Kinds.{statement, store_kind, store_action, store_block};
@@ -23,9 +25,12 @@ pub struct StoreTo {
 impl StoreTo {
     /// `[to] <- a`, or `byte [to] <- a` where `byte` is true.
     pub fn new(to: Place, a: Operand, byte: bool) -> StoreTo
-        ensures to { result.to ≡ to }
-        ensures a { result.a ≡ a }
-        ensures byte { result.byte ≡ byte }
+        ensures stands { ⟦<StoreTo as Macro>⟧.stands result ≡ statement 0 (store_kind byte to a) ∷ [] }
+        ensures count { ⟦<StoreTo as Macro>⟧.count result ≡ 1 }
+        ensures comes { ⟦<StoreTo as Macro>⟧.comes result ≡ true }
+        ensures code { ⟦<StoreTo as Macro>⟧.code result ≡ (λ locals label next. store_block locals byte to a label next ∷ []) }
+        ensures heads { ⟦<StoreTo as Macro>⟧.heads result ≡ (λ label. []) }
+        ensures fits { (d : Decls) (c : FunctionSite) → ⟦<StoreTo as Macro>⟧.fits result d c ↔ (IsKnown c.site.locals to.base × IsKnown c.site.locals a) }
     {
         StoreTo { to, a, byte }
     }
