@@ -1,0 +1,3 @@
+mod StatementLemmas
+mod ScopeLemmas
+pub mod FunctionLaws
