@@ -1,0 +1,5 @@
+pub mod Parts
+pub mod Faults
+pub mod Linkable
+pub mod Resolved
+pub mod Seen

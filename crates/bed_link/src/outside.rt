@@ -1,0 +1,119 @@
+//! The imports that no module exports, with the addresses that are given for them.
+ghost use Rattle.std.specs.Prelude.{◌≡◌, ◌≢◌, ℕ, List, [], ◌∷◌, ◌++◌, map, nat_eq, count_by, is_some, Some, OnOk, IfOk, IfErr};
+ghost use Rattle.bed_names.specs.Tables.{IsIndex, number_of};
+ghost use Rattle.bed_table.specs.Layout.{Defined, address_of, import_label, exports, outside_names};
+ghost use Rattle.bed_link.specs.Faults.{refusal};
+ghost use Rattle.bed_link.specs.Linkable.{address_faults, lies_in, is_shared as is_shared_by};
+ghost use Rattle.bed_link.specs.Seen.{Knows, outside_of};
+
+use crate::error::{LinkError, bad_address};
+use crate::parts::Part;
+use crate::unresolved::{exported, names};
+use bed_lang::{Function, Import, Name};
+use bed_names::Table;
+use std::alloc::{AllocError, Global};
+
+/// An import that no module exports.
+#[derive(Drop)]
+pub(crate) struct Outside<'a> {
+    pub(crate) name: &'a Name,
+    pub(crate) address: u32,
+}
+
+// The address that is given for a name; 0 where none is.
+fn address_under(table: &Table, given: &[(Name, u32)], name: &Name) -> u32
+    requires { IsIndex table.now (map (λ g. g.0) given.now) }
+    ensures { result ≡ address_of (map import_label given.now) name.now.bytes }
+{
+    match table.get(name.bytes.as_slice()) {
+        Some(number) => match given.get(number) {
+            Some(word) => word.1,
+            None => 0,
+        },
+        None => 0,
+    }
+}
+
+// The names of imports that aren't exported functions, each at its first place.
+fn outside_names_of<'a>(
+    alloc: Global,
+    exported: &Table,
+    imports: &[Part<'a, Import>],
+) -> Result<Vec<&'a Name>, AllocError>
+    ensures { IfOk result (λ v. (ds : List Defined) → ((x : List ℕ) → is_some (number_of exported.now x) ≡ exports ds x) → map (λ n. n.now) v.items ≡ outside_names ds [] (map (λ p. p.item.now.name) imports.now)) }
+{
+    let mut seen = Table::new(alloc);
+    let mut out = Vec::new(alloc);
+    for (number, part) in imports.iter().enumerate() {
+        let name = &part.item.name;
+        let bytes = name.bytes.as_slice();
+        if exported.get(bytes).is_none() && seen.add(bytes, number)? {
+            out.push(name)?;
+        }
+    }
+    Ok(out)
+}
+
+// The names with the addresses that are given for them.
+fn with_addresses<'a>(
+    alloc: Global,
+    given: &[(Name, u32)],
+    imports: &[&'a Name],
+) -> Result<Vec<Outside<'a>>, AllocError>
+    ensures { IfOk result (λ v. map outside_of v.items ≡ map (λ n. (n.now, address_of (map import_label given.now) n.now.bytes)) imports.now) }
+{
+    let table = names(alloc, given)?;
+    let mut out = Vec::new(alloc);
+    for name in imports {
+        let address = address_under(&table, given, name);
+        out.push(Outside { name, address })?;
+    }
+    Ok(out)
+}
+
+/// The imports that no module exports, in the order of their first declaration.
+pub(crate) fn outside_imports<'a>(
+    alloc: Global,
+    functions: &[Part<Function>],
+    imports: &[Part<'a, Import>],
+    given: &[(Name, u32)],
+) -> Result<Vec<Outside<'a>>, AllocError>
+    ensures { IfOk result (λ v. (ds : List Defined) → map (λ d. d.function) ds ≡ map (λ p. p.item.now) functions.now → map outside_of v.items ≡ map (λ n. (n, address_of (map import_label given.now) n.bytes)) (outside_names ds [] (map (λ p. p.item.now.name) imports.now))) }
+{
+    let exported = exported(alloc, functions)?;
+    let imports = outside_names_of(alloc, &exported, imports)?;
+    with_addresses(alloc, given, imports.as_slice())
+}
+
+// Whether more than one import has this address. The addresses are few: at most as many as are given.
+fn is_shared(imports: &[Outside], address: u32) -> bool
+    ensures { result ≡ is_shared_by (map outside_of imports.now) address }
+{
+    let mut count: usize = 0;
+    for import in imports {
+        if import.address == address {
+            count += 1;
+        }
+    }
+    count > 1
+}
+
+/// No import has an address in the code, or that of another.
+pub(crate) fn all_apart(
+    alloc: Global,
+    base: u32,
+    length: u32,
+    imports: &[Outside],
+) -> Result<(), LinkError>
+    ensures accepted { OnOk result (address_faults base length (map outside_of imports.now) ≡ []) }
+    ensures refused { IfErr result (λ e. e ≢ LinkError.Memory → refusal (address_faults base length (map outside_of imports.now)) ≡ Some e) }
+{
+    let end = base as u64 + length as u64;
+    for import in imports {
+        let address = import.address;
+        if base <= address && (address as u64) < end || is_shared(imports, address) {
+            return Err(bad_address(alloc, import.name));
+        }
+    }
+    Ok(())
+}
