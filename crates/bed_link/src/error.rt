@@ -3,7 +3,7 @@ ghost use Rattle.std.specs.Prelude.{◌≡◌, ◌≢◌};
 
 use bed_lang::Name;
 use std::alloc::{AllocError, Global};
-use std::fmt;
+use std::fmt::{self, Write};
 use thiserror::Error;
 
 /// The first rule of linking that modules break. Modules are numbered from 0.
@@ -37,7 +37,7 @@ pub enum LinkError {
 }
 
 impl fmt::Debug for LinkError {
-    fn fmt(&self, f: &mut fmt::Formatter<'_>) -> fmt::Result {
+    fn fmt<W: Write>(&self, f: &mut fmt::Formatter<W>) -> fmt::Result {
         fmt::Display::fmt(self, f)
     }
 }
