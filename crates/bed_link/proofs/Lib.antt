@@ -1,0 +1,5 @@
+mod FaultLemmas
+mod TableLemmas
+mod LayoutLemmas
+mod OutsideLemmas
+mod HeadLemmas

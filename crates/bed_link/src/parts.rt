@@ -97,7 +97,8 @@ fn push_parts<'a, T: Item>(
 ) -> Result<(), AllocError>
     ensures { OnOk result (map (λ p. (p.item.now, p.number)) out.new.items ≡ map (λ p. (p.item.now, p.number)) out.old.items ++ map (λ t. (t, number)) (T.listed source.now)) }
 {
-    for item in T::listed(source) {
+    let items = T::listed(source);
+    for item in items {
         out.push(Part { item, number })?;
     }
     Ok(())

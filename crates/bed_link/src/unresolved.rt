@@ -12,17 +12,31 @@ use bed_lang::{Function, Import, Name};
 use bed_names::Table;
 use std::alloc::{AllocError, Global};
 
+// The exported functions.
+fn exported_functions<'a>(
+    alloc: Global,
+    functions: &[Part<'a, Function>],
+) -> Result<Vec<Part<'a, Function>>, AllocError>
+    ensures { IfOk result (λ v. v.items ≡ filter (λ p. p.item.now.exported) functions.now) }
+{
+    let mut out = Vec::new(alloc);
+    for part in functions {
+        if part.item.exported {
+            out.push(Part {
+                item: part.item,
+                number: part.number,
+            })?;
+        }
+    }
+    Ok(out)
+}
+
 /// The table of the exported functions' names.
 pub(crate) fn exported(alloc: Global, functions: &[Part<Function>]) -> Result<Table, AllocError>
     ensures { IfOk result (λ t. Knows t (map (λ p. p.item.now.name) (filter (λ p. p.item.now.exported) functions.now))) }
 {
-    let mut table = Table::new(alloc);
-    for (number, part) in functions.iter().enumerate() {
-        if part.item.exported {
-            table.add(part.item.name.bytes.as_slice(), number)?;
-        }
-    }
-    Ok(table)
+    let exported = exported_functions(alloc, functions)?;
+    names(alloc, exported.as_slice())
 }
 
 /// The table of names, each with the number of the first that has it.

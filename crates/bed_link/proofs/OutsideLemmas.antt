@@ -1,0 +1,185 @@
+-- The imports that no module exports, and the addresses that are given for them.
+use Rattle.std.proofs.Common.{◌≡◌, ◌∙◌, sym, ap, ap₂, subst, refl, ℕ, suc, ◌+◌, ◌<◌, ◌≤◌, arith, add-one, Bool, true, false, cond, not, ◌&&◌, ◌||◌, if◌then◌else◌, List, [], ◌∷◌, ◌++◌, map, filter, length, drop, get_or, bytes_eq, Option, None, Some}
+use Rattle.std.specs.Prelude.{find}
+use Rattle.std.proofs.lemmas.Slice.Eq.{bytes_eq-Decides}
+use Rattle.bed_lang.specs.declared.word.Name.{Name}
+use Rattle.bed_lang.specs.declared.module.Function.{Function}
+use Rattle.bed_lang.specs.declared.module.Module.{Module}
+use Rattle.bed_names.specs.Tables.{number_of, position_of, IsIndex, item_at}
+use Rattle.bed_names.proofs.TableLaws.{item_at-position_of, bytes_eq_turned}
+use Rattle.bed_table.specs.Code.{function_piece}
+use Rattle.bed_table.specs.Layout.{Defined, all_defined, placed_from, placed, Label, address_of, function_label, import_label, label_address, exports, is_among, outside_names, outside_imports, imported, code_length}
+use Rattle.bed_link.specs.declared.error.LinkError.{LinkError}
+use Rattle.bed_link.specs.declared.error.LinkError.TheVariants.{Twice, Unresolved}
+use Rattle.bed_link.specs.Parts.{functions, imports, is_exported, function_claim}
+use Rattle.bed_link.specs.Faults.{each, fault_if}
+use Rattle.bed_link.specs.Linkable.{is_one_of, given_twice, missing, unused, repeated, twice_faults, unresolved_faults, differs_faults, length_faults, before_faults, module_names, function_names, exported_names, import_names, given_names, outside}
+use Rattle.bed_link.specs.Resolved.{resolved}
+use Rattle.bed_link.proofs.FaultLemmas.{each_same}
+use Rattle.bed_link.proofs.LayoutLemmas.{functions_are, exports_are, imported_are}
+
+-- ---- parts of an empty list
+
+left_none : (xs ys : List LinkError) → xs ++ ys ≡ [] → xs ≡ []
+left_none [] ys e = refl
+left_none (x ∷ xs) ys e = cc
+
+right_none : (xs ys : List LinkError) → xs ++ ys ≡ [] → ys ≡ []
+right_none [] ys e = e
+right_none (x ∷ xs) ys e = cc
+
+-- ---- names of functions
+
+claims_step : (b : Bool) (f : Function × ℕ) (rest : List (Function × ℕ)) (fs : List Function)
+    → map (λ c. c.name) (map function_claim rest) ≡ map (λ (f : Function). f.name) fs
+    → map (λ c. c.name) (map function_claim (cond b (f ∷ rest) rest)) ≡ map (λ (f : Function). f.name) (cond b (f.0 ∷ fs) fs)
+claims_step true f rest fs h = ap (λ l. f.0.name ∷ l) h
+claims_step false f rest fs h = h
+
+claims_named : (fs : List (Function × ℕ))
+    → map (λ c. c.name) (map function_claim (filter is_exported fs)) ≡ map (λ (f : Function). f.name) (filter (λ (f : Function). f.exported) (map (λ (f : Function × ℕ). f.0) fs))
+claims_named [] = refl
+claims_named (f ∷ fs) = claims_step f.0.exported f (filter is_exported fs) (filter (λ f. f.exported) (map (λ f. f.0) fs)) (claims_named fs)
+
+pub exports_by_names : (ms : List Module) (x : List ℕ) → exports (all_defined ms) x ≡ is_among (exported_names ms) x
+exports_by_names ms x =
+    exports_are (all_defined ms) x
+    ∙ ap (λ fs. is_among (map (λ (f : Function). f.name) (filter (λ (f : Function). f.exported) fs)) x) (functions_are ms)
+    ∙ ap (λ ns. is_among ns x) (sym (claims_named (functions ms)))
+
+names_twice : (fs : List (Function × ℕ)) → map (λ (f : Function). f.name) (map (λ (f : Function × ℕ). f.0) fs) ≡ map (λ (f : Function × ℕ). f.0.name) fs
+names_twice [] = refl
+names_twice (f ∷ fs) = ap (λ l. f.0.name ∷ l) (names_twice fs)
+
+-- ---- an import's address isn't that of a function
+
+skip : (at : ℕ) (ds : List Defined) (more : List Label) (x : List ℕ) → is_among (map (λ (f : Function). f.name) (map (λ (d : Defined). d.function) ds)) x ≡ false
+    → address_of (map function_label (placed_from at ds) ++ more) x ≡ address_of more x
+skip at [] more x e = refl
+skip at (d ∷ ds) more x e = by_test (bytes_eq d.function.name.bytes x) (λ f. skip (at + (function_piece d.function).size) ds more x f) e
+  where
+    by_test : (b : Bool)
+        → (is_among (map (λ (f : Function). f.name) (map (λ (d : Defined). d.function) ds)) x ≡ false
+        → address_of (map function_label (placed_from (at + (function_piece d.function).size) ds) ++ more) x ≡ address_of more x)
+        → (b || is_among (map (λ (f : Function). f.name) (map (λ (d : Defined). d.function) ds)) x) ≡ false
+        → cond b at (address_of (map function_label (placed_from (at + (function_piece d.function).size) ds) ++ more) x) ≡ address_of more x
+    by_test true later e = cc
+    by_test false later e = later e
+
+no_function : (given fs : List Name) (x : List ℕ) → given_twice (is_one_of given) fs ≡ [] → is_among given x ≡ true → is_among fs x ≡ false
+no_function given [] x none is = refl
+no_function given (f ∷ fs) x none is =
+    by_test (bytes_eq f.bytes x) refl (is_among given f.bytes) refl none (λ h. no_function given fs x h is)
+  where
+    by_test : (b : Bool) → bytes_eq f.bytes x ≡ b → (g : Bool) → is_among given f.bytes ≡ g
+        → fault_if g (Twice f) ++ given_twice (is_one_of given) fs ≡ []
+        → (given_twice (is_one_of given) fs ≡ [] → is_among fs x ≡ false) → (b || is_among fs x) ≡ false
+    by_test b eb true eg h later = cc
+    by_test false eb false eg h later = later h
+    by_test true eb false eg h later =
+        let same : f.bytes ≡ x = (bytes_eq-Decides f.bytes x).0 eb in
+        let there : is_among given f.bytes ≡ true = ap (is_among given) same ∙ is in
+        cc
+
+-- ---- each outside import has a given address
+
+abbrev pub AllGiven : List Name → List Name → Type 0
+AllGiven given [] = Unit {0}
+AllGiven given (n ∷ ns) = (is_among given n.bytes ≡ true) × AllGiven given ns
+
+given_more : (given ns : List Name) (n : Name) → AllGiven given ns → is_among given n.bytes ≡ true → AllGiven given (ns ++ n ∷ [])
+given_more given [] n all is = (is, tt)
+given_more given (m ∷ ns) n all is = (all.0, given_more given ns n all.1 is)
+
+all_given : (ds : List Defined) (given seen ns : List Name) → missing (λ n. exports ds n.bytes) (is_one_of given) ns ≡ []
+    → AllGiven given seen → AllGiven given (outside_names ds seen ns)
+all_given ds given seen [] none all = all
+all_given ds given seen (n ∷ ns) none all =
+    by_test (exports ds n.bytes) (is_among given n.bytes) refl (is_among seen n.bytes) none (λ s h a. all_given ds given s ns h a)
+  where
+    by_test : (e g : Bool) → is_among given n.bytes ≡ g → (s : Bool)
+        → fault_if (not (e || g)) (Unresolved n) ++ missing (λ n. exports ds n.bytes) (is_one_of given) ns ≡ []
+        → ((seen : List Name) → missing (λ n. exports ds n.bytes) (is_one_of given) ns ≡ [] → AllGiven given seen → AllGiven given (outside_names ds seen ns))
+        → AllGiven given (outside_names ds (if e || s then seen else (seen ++ n ∷ [])) ns)
+    by_test true g eg s h later = later seen h all
+    by_test false true eg true h later = later seen h all
+    by_test false true eg false h later = later (seen ++ n ∷ []) h (given_more given seen n all eg)
+    by_test false false eg s h later = cc
+
+map_given : (given ns : List Name) (f g : Name → ℕ) → ((n : Name) → is_among given n.bytes ≡ true → f n ≡ g n) → AllGiven given ns
+    → map (λ x. (x, f x)) ns ≡ map (λ x. (x, g x)) ns
+map_given given [] f g same all = refl
+map_given given (n ∷ ns) f g same all =
+    ap (λ a. (n, a) ∷ map (λ x. (x, f x)) ns) (same n all.0) ∙ ap (λ l. (n, g n) ∷ l) (map_given given ns f g same all.1)
+
+-- where no rule before the last is broken, the outside imports have the addresses that are given for them
+module _ (ms : List Module) (given : List (Name × ℕ)) (base : ℕ) (none : before_faults ms given base ≡ []) where
+  abbrev twice : List LinkError
+  twice = twice_faults (module_names ms) (function_names ms) (given_names given)
+
+  abbrev lost : List LinkError
+  lost = unresolved_faults (exported_names ms) (import_names ms) (given_names given)
+
+  abbrev rest : List LinkError
+  rest = differs_faults ms ++ length_faults base (code_length ms)
+
+  not_twice : given_twice (is_one_of (given_names given)) (function_names ms) ≡ []
+  not_twice =
+      let twice_none : twice ≡ [] = left_none twice (lost ++ rest) none in
+      right_none (repeated (given_names given)) _
+      (right_none (repeated (function_names ms)) _ (right_none (repeated (module_names ms)) _ twice_none))
+
+  not_missing : missing (λ n. exports (all_defined ms) n.bytes) (is_one_of (given_names given)) (imported ms) ≡ []
+  not_missing =
+      let lost_none : lost ≡ [] = left_none lost rest (right_none twice (lost ++ rest) none) in
+      ap (missing (λ n. exports (all_defined ms) n.bytes) (is_one_of (given_names given))) (imported_are ms)
+      ∙ each_same (λ x. fault_if (not (exports (all_defined ms) x.bytes || is_one_of (given_names given) x)) (Unresolved x))
+      (λ x. fault_if (not (is_one_of (exported_names ms) x || is_one_of (given_names given) x)) (Unresolved x)) (import_names ms)
+      (λ x. ap (λ b. fault_if (not (b || is_one_of (given_names given) x)) (Unresolved x)) (exports_by_names ms x.bytes))
+      ∙ left_none _ (unused (is_one_of (import_names ms)) (given_names given)) lost_none
+
+  pub label_given : (x : List ℕ) → is_among (given_names given) x ≡ true
+      → label_address ms base given x ≡ address_of (map import_label given) x
+  label_given x is =
+      skip base (all_defined ms) (map import_label given) x
+      (ap (λ fs. is_among (map (λ (f : Function). f.name) fs) x) (functions_are ms)
+      ∙ ap (λ ns. is_among ns x) (names_twice (functions ms))
+      ∙ no_function (given_names given) (function_names ms) x not_twice is)
+
+  pub imports_given : (resolved ms given base).imports ≡ outside ms given
+  imports_given =
+      map_given (given_names given) (outside_imports ms) (λ x. label_address ms base given x.bytes) (λ x. address_of (map import_label given) x.bytes)
+      (λ x is. label_given x.bytes is) (all_given (all_defined ms) (given_names given) [] (imported ms) not_missing tt)
+
+-- ---- the address that is given for a name
+
+address_step : (b : Bool) (g : Name × ℕ) (o : Option (Name × ℕ)) (rest : ℕ) (a : ℕ)
+    → ((g : Name × ℕ) → o ≡ Some g → rest ≡ g.1) → (o ≡ None → rest ≡ 0)
+    → ((h : Name × ℕ) → cond b (Some g) o ≡ Some h → cond b g.1 rest ≡ h.1) × (cond b (Some g) o ≡ None → cond b g.1 rest ≡ 0)
+address_step true g o rest a some none = (λ h e. cc, λ e. cc)
+address_step false g o rest a some none = (some, none)
+
+address_found : (given : List (Name × ℕ)) (x : List ℕ)
+    → ((g : Name × ℕ) → find (λ g. bytes_eq g.0.bytes x) given ≡ Some g → address_of (map import_label given) x ≡ g.1)
+    × (find (λ g. bytes_eq g.0.bytes x) given ≡ None → address_of (map import_label given) x ≡ 0)
+address_found [] x = (λ g e. cc, λ e. refl)
+address_found (g ∷ given) x =
+    let more = address_found given x in
+    address_step (bytes_eq g.0.bytes x) g (find (λ g. bytes_eq g.0.bytes x) given) (address_of (map import_label given) x) 0 more.0 more.1
+
+pub address_by_table : (table : List (List ℕ × ℕ)) (given : List (Name × ℕ)) (x : List ℕ) → IsIndex table (map (λ g. g.0) given)
+    → ((g : Name × ℕ) → item_at given (number_of table x) ≡ Some g → address_of (map import_label given) x ≡ g.1)
+    × (item_at given (number_of table x) ≡ None → address_of (map import_label given) x ≡ 0)
+address_by_table table given x is =
+    let same : item_at given (number_of table x) ≡ find (λ g. bytes_eq g.0.bytes x) given =
+    ap (item_at given) (is x) ∙ item_at-position_of (λ g. g.0) given x in
+    let found = address_found given x in
+    (λ g e. found.0 g (sym same ∙ e), λ e. found.1 (sym same ∙ e))
+
+-- ---- one more import, where the loop goes over them
+
+pub outside_step : (ds : List Defined) (seen next : List Name) (x : Name) (ns : List Name) (e s : Bool) (whole : List Name)
+    → exports ds x.bytes ≡ e → is_among seen x.bytes ≡ s → next ≡ cond (e || s) seen (seen ++ x ∷ [])
+    → outside_names ds seen (x ∷ ns) ≡ whole → outside_names ds next ns ≡ whole
+outside_step ds seen next x ns e s whole ee es en h =
+    ap (λ l. outside_names ds l ns) (en ∙ ap₂ (λ a b. cond (a || b) seen (seen ++ x ∷ [])) (sym ee) (sym es)) ∙ h
