@@ -1,5 +1,5 @@
 -- The heads of a function's loops lie in its code.
-use Rattle.std.proofs.Common.{◌≡◌, ◌∙◌, sym, ap, refl, ℕ, ◌+◌, ◌<◌, ◌≤◌, arith, List, [], ◌∷◌, ◌++◌, map, Contains}
+use Rattle.std.proofs.Common.{◌≡◌, ◌∙◌, sym, ap, refl, subst, ℕ, zero, suc, ◌+◌, ◌<◌, ◌≤◌, arith, List, [], ◌∷◌, ◌++◌, map, Contains}
 use Rattle.bed_lang.specs.declared.word.Name.{Name}
 use Rattle.bed_lang.specs.declared.logic.Assertion.{Assertion}
 use Rattle.bed_lang.specs.declared.module.Test.{Test}
@@ -96,10 +96,14 @@ rows (StmtKind-F.Walk n v p s u t keep body) = in_list_loop n v p _ _ (in_a_sequ
 function_heads : (f : Function) → HasHeads (function_piece f)
 function_heads f = in_a_sequence (entry ∷ sequence (map piece f.body) ∷ []) (none entry (λ at. refl), (in_a_sequence (map piece f.body) (every_body HasHeads rows f.body), tt))
 
--- the addresses of a function's heads, as numbers below 2^32
+-- the addresses of a function's heads are words, where its code ends at or below 2^32
 among : (n : ℕ) (hs : List Head) (h : ℕ) → AreBelow n hs → Contains (map (λ (x : Head). x.address) hs) h → h < n
-among n hs h below is = ?
+among n [] h below (k, lt, e) = omega (arith, lt)
+among n (x ∷ hs) h below (zero, lt, e) = subst (λ a. a < n) e below.0
+among n (x ∷ hs) h below (suc k, lt, e) = among n hs h below.1 (k, omega (arith, lt), e)
 
 pub heads_fit : (f : Function) (at : ℕ) (heads : List ℕ) (h : ℕ) → at + (function_piece f).size ≤ 4294967296
-    → heads ≡ map (λ x. x.address) ((function_piece f).heads at) → Contains heads h → h < 4294967296
-heads_fit f at heads h le e is = ?
+    → heads ≡ map (λ (x : Head). x.address) ((function_piece f).heads at) → Contains heads h → h < 4294967296
+heads_fit f at heads h le e is =
+    let below = among (at + (function_piece f).size) ((function_piece f).heads at) h ((function_heads f).below at) (subst (λ l. Contains l h) e is) in
+    omega (arith, le, below)

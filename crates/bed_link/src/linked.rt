@@ -131,7 +131,7 @@ fn imports_of(alloc: Global, imports: &[Outside]) -> Result<List<(Name, u32)>, A
 }
 
 /// What stands where: functions one right after the other from a base, their loops, and imports.
-pub(crate) fn linked(
+pub(crate) fn layout_of(
     alloc: Global,
     base: u32,
     length: u32,

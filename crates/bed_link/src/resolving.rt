@@ -10,7 +10,7 @@ ghost use Rattle.bed_link.specs.Seen.{module_of};
 use crate::differing::none_differs;
 use crate::error::LinkError;
 use crate::lengths::checked_length;
-use crate::linked::{Linked, linked};
+use crate::linked::{Linked, layout_of};
 use crate::outside::{all_apart, outside_imports};
 use crate::parts::{Part, parts};
 use crate::twice::no_name_twice;
@@ -61,7 +61,7 @@ fn placed(
     let length = judged(alloc, modules, functions, imports, given, base)?;
     let outside = outside_imports(alloc, functions, imports, given)?;
     all_apart(alloc, base, length, outside.as_slice())?;
-    Ok(linked(alloc, base, length, functions, outside.as_slice())?)
+    Ok(layout_of(alloc, base, length, functions, outside.as_slice())?)
 }
 
 /// What stands where in the code of modules from a base, with the addresses that are given for imports, where they can be linked.
