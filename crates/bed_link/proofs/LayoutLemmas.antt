@@ -30,9 +30,6 @@ parts_step listed modules i s m before whole lt is e h =
 
 -- ---- functions
 
-defined_function : Defined → Function
-defined_function d = d.function
-
 first : {T : Type 0} (n : ℕ) (ts : List T) → map (λ (p : T × ℕ). p.0) (map (λ t. (t, n)) ts) ≡ ts
 first n [] = refl
 first n (t ∷ ts) = ap (λ l. t ∷ l) (first n ts)

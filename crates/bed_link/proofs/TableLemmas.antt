@@ -4,9 +4,8 @@ use Rattle.std.specs.Prelude.{find, option_map, slice_get}
 use Rattle.std.specs.Bool.{OnTrue, OnFalse}
 use Rattle.std.proofs.lemmas.List.{take_more, take-map, get_or-map, length-map}
 use Rattle.bed_lang.specs.declared.word.Name.{Name}
-use Rattle.bed_names.specs.Names as names
 use Rattle.bed_names.specs.Tables.{number_of, position_of, IsIndex, item_at}
-use Rattle.bed_names.proofs.TableLaws.{bytes_eq_turned, is_some-position_of}
+use Rattle.bed_names.proofs.TableLaws.{bytes_eq_turned}
 use Rattle.bed_table.specs.Layout.{is_among}
 use Rattle.bed_link.specs.Seen.{Knows}
 

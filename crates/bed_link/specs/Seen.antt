@@ -8,7 +8,6 @@ use Rattle.bed_names.specs.Tables.{number_of}
 use Rattle.bed_table.specs.Layout.{is_among}
 use Rattle.bed_table.specs.Code.{function_piece}
 use Rattle.bed_link.specs.Parts as parts
-use Rattle.bed_link.specs.declared.parts.Part.{Part}
 use Rattle.bed_link.specs.declared.differing.Claim.{Claim}
 use Rattle.bed_link.specs.declared.outside.Outside.{Outside}
 

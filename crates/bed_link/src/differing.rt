@@ -1,4 +1,6 @@
 //! Names that are declared in two ways.
+#![tactic(auto, using(crate::proofs::FaultLemmas::append_none, crate::proofs::FaultLemmas::refusal_first, crate::proofs::FaultLemmas::refusal_later))]
+
 ghost use Rattle.std.specs.Prelude.{◌≡◌, ◌≢◌, [], ◌++◌, map, filter, length, ◌≤◌, Some, OnOk, IfOk, IfErr};
 ghost use Rattle.bed_names.specs.Tables.{item_at};
 ghost use Rattle.bed_link.specs.Parts as parts;

@@ -1,5 +1,5 @@
 //! How long the code is.
-ghost use Rattle.std.specs.Prelude.{◌≡◌, ◌≢◌, ◌+◌, ◌-◌, ◌^◌, ◌≤◌, ◌×◌, [], map, min, Some, OnOk, IfOk, IfErr};
+ghost use Rattle.std.specs.Prelude.{◌≡◌, ◌≢◌, ◌+◌, ◌-◌, ◌^◌, ◌≤◌, [], map, min, Some, OnOk, IfOk, IfErr};
 ghost use Rattle.bed_table.specs.Layout.{sum_of_sizes};
 ghost use Rattle.bed_link.specs.Faults.{refusal};
 ghost use Rattle.bed_link.specs.Linkable.{length_faults};

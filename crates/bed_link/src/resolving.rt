@@ -1,4 +1,6 @@
 //! Linking: the five rules in their order, and the layout.
+#![tactic(auto, using(crate::proofs::FaultLemmas::append_none, crate::proofs::FaultLemmas::refusal_first, crate::proofs::FaultLemmas::refusal_later))]
+
 ghost use Rattle.std.specs.Prelude.{◌≡◌, ◌≢◌, ◌≤◌, ◌+◌, ◌^◌, [], map, length, Some, OnOk, IfOk, IfErr};
 ghost use Rattle.bed_table.specs.Layout.{sum_of_sizes, code_length};
 ghost use Rattle.bed_link.specs.Parts as parts_of;

@@ -1,4 +1,6 @@
 //! Names that are declared twice.
+#![tactic(auto, using(crate::proofs::FaultLemmas::append_none, crate::proofs::FaultLemmas::refusal_first, crate::proofs::FaultLemmas::refusal_later))]
+
 ghost use Rattle.std.specs.Prelude.{◌≡◌, ◌≢◌, [], map, Some, OnOk, IfOk, IfErr};
 ghost use Rattle.bed_names.specs.Tables.{IsIndex};
 ghost use Rattle.bed_link.specs.Faults.{refusal};

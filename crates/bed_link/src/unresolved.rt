@@ -1,4 +1,6 @@
 //! Imports that nothing resolves, and given addresses that nothing uses.
+#![tactic(auto, using(crate::proofs::FaultLemmas::append_none, crate::proofs::FaultLemmas::refusal_first, crate::proofs::FaultLemmas::refusal_later))]
+
 ghost use Rattle.std.specs.Prelude.{◌≡◌, ◌≢◌, [], map, filter, Some, OnOk, IfOk, IfErr};
 ghost use Rattle.bed_names.specs.Tables.{IsIndex};
 ghost use Rattle.bed_link.specs.Faults.{refusal};
