@@ -1,4 +1,4 @@
--- Lists of faults, as loops go over the items of a list.
+-- Lists of faults, us loops go over the items of a list.
 use Rattle.std.proofs.Common.{◌≡◌, ◌∙◌, sym, ap, refl, ℕ, suc, ◌+◌, ◌<◌, ◌≤◌, add-one, Bool, true, false, cond, not, List, [], ◌∷◌, ◌++◌, map, length, take, drop, get_or, Option, None, Some, drop-cons, drop_of_length-le, append_assoc, append-nil, bytes_eq}
 use Rattle.std.specs.Prelude.{find, option_map}
 use Rattle.std.proofs.lemmas.List.{take_more, map-append}
@@ -82,9 +82,9 @@ module _ {A B : Type 0} (g : A → B) (name_of : B → Name) (module_of : B → 
   found_step true a o p e = refl
   found_step false a o p e = e
 
-  first_mapped : (as : List A) (t : A) → first_named name_of module_of same (map g as) (g t) ≡ option_map g (first_named name' module' same' as t)
+  first_mapped : (us : List A) (t : A) → first_named name_of module_of same (map g us) (g t) ≡ option_map g (first_named name' module' same' us t)
   first_mapped [] t = refl
-  first_mapped (a ∷ as) t = found_step (bytes_eq (name' a).bytes (name' t).bytes) a _ _ (first_mapped as t)
+  first_mapped (a ∷ us) t = found_step (bytes_eq (name' a).bytes (name' t).bytes) a _ _ (first_mapped us t)
 
   differs_mapped : (o : Option A) (t : A) → differs_from name_of module_of same (option_map g o) (g t) ≡ differs_from name' module' same' o t
   differs_mapped None t = refl
@@ -96,16 +96,16 @@ module _ {A B : Type 0} (g : A → B) (name_of : B → Name) (module_of : B → 
   abbrev after_in : List B → List B → List LinkError
   after_in = each_after (λ before t. differs_from name_of module_of same (first_named name_of module_of same before t) t)
 
-  after_mapped : (before as : List A) → after_in (map g before) (map g as) ≡ after' before as
+  after_mapped : (before us : List A) → after_in (map g before) (map g us) ≡ after' before us
   after_mapped before [] = refl
-  after_mapped before (a ∷ as) =
-      ap (λ l. differs_from name_of module_of same (first_named name_of module_of same (map g before) (g a)) (g a) ++ after_in l (map g as))
+  after_mapped before (a ∷ us) =
+      ap (λ l. differs_from name_of module_of same (first_named name_of module_of same (map g before) (g a)) (g a) ++ after_in l (map g us))
       (sym (map-append g before (a ∷ [])))
       ∙ ap (λ l. differs_from name_of module_of same (first_named name_of module_of same (map g before) (g a)) (g a) ++ l)
-      (after_mapped (before ++ a ∷ []) as)
-      ∙ ap (λ l. l ++ after' (before ++ a ∷ []) as)
+      (after_mapped (before ++ a ∷ []) us)
+      ∙ ap (λ l. l ++ after' (before ++ a ∷ []) us)
       (ap (λ o. differs_from name_of module_of same o (g a)) (first_mapped before a)
       ∙ differs_mapped (first_named name' module' same' before a) a)
 
-  pub differing_mapped : (as : List A) → differing name_of module_of same (map g as) ≡ differing name' module' same' as
-  differing_mapped as = after_mapped [] as
+  pub differing_mapped : (us : List A) → differing name_of module_of same (map g us) ≡ differing name' module' same' us
+  differing_mapped us = after_mapped [] us

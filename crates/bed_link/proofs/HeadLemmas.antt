@@ -1,5 +1,5 @@
 -- The heads of a function's loops lie in its code.
-use Rattle.std.proofs.Common.{◌≡◌, ◌∙◌, sym, ap, refl, subst, ℕ, zero, suc, ◌+◌, ◌<◌, ◌≤◌, arith, List, [], ◌∷◌, ◌++◌, map, Contains}
+use Rattle.std.proofs.Common.{◌≡◌, ◌∙◌, sym, ap, refl, subst, ℕ, zero, suc, ◌+◌, ◌<◌, ◌≤◌, arith, List, [], ◌∷◌, ◌++◌, map, length, All, slice_index_or}
 use Rattle.bed_lang.specs.declared.word.Name.{Name}
 use Rattle.bed_lang.specs.declared.logic.Assertion.{Assertion}
 use Rattle.bed_lang.specs.declared.module.Test.{Test}
@@ -97,13 +97,16 @@ function_heads : (f : Function) → HasHeads (function_piece f)
 function_heads f = in_a_sequence (entry ∷ sequence (map piece f.body) ∷ []) (none entry (λ at. refl), (in_a_sequence (map piece f.body) (every_body HasHeads rows f.body), tt))
 
 -- the addresses of a function's heads are words, where its code ends at or below 2^32
-among : (n : ℕ) (hs : List Head) (h : ℕ) → AreBelow n hs → Contains (map (λ (x : Head). x.address) hs) h → h < n
-among n [] h below (k, lt, e) = omega (arith, lt)
-among n (x ∷ hs) h below (zero, lt, e) = subst (λ a. a < n) e below.0
-among n (x ∷ hs) h below (suc k, lt, e) = among n hs h below.1 (k, omega (arith, lt), e)
+among : (n : ℕ) (hs : List Head) (d : ℕ) → AreBelow n hs → (k : ℕ) → k < length (map (λ (x : Head). x.address) hs)
+    → slice_index_or (map (λ (x : Head). x.address) hs) k d < n
+among n [] d below k lt = omega (arith, lt)
+among n (x ∷ hs) d below zero lt = below.0
+among n (x ∷ hs) d below (suc k) lt = among n hs d below.1 k (omega (arith, lt))
 
-pub heads_fit : (f : Function) (at : ℕ) (heads : List ℕ) (h : ℕ) → at + (function_piece f).size ≤ 4294967296
-    → heads ≡ map (λ (x : Head). x.address) ((function_piece f).heads at) → Contains heads h → h < 4294967296
-heads_fit f at heads h le e is =
-    let below = among (at + (function_piece f).size) ((function_piece f).heads at) h ((function_heads f).below at) (subst (λ l. Contains l h) e is) in
-    omega (arith, le, below)
+pub heads_fit : (f : Function) (at : ℕ) (heads : List ℕ) → at + (function_piece f).size ≤ 4294967296
+    → heads ≡ map (λ (x : Head). x.address) ((function_piece f).heads at) → All (λ h. h < 4294967296) heads
+heads_fit f at heads le e =
+    subst (All (λ h. h < 4294967296)) (sym e)
+    (λ k d lt.
+        let below = among (at + (function_piece f).size) ((function_piece f).heads at) d ((function_heads f).below at) k lt in
+        omega (arith, le, below))

@@ -11,9 +11,9 @@ use Rattle.bed_table.specs.Code.{function_piece}
 use Rattle.bed_table.specs.Layout as layout
 use Rattle.bed_table.specs.Layout.{Defined, define, all_defined, defined_in, Placed, placed_from, total_size, sum_of_sizes, code_length, imported, exports, is_among}
 use Rattle.bed_names.specs.InScope.{InScope}
-use Rattle.bed_link.specs.Parts.{parts_from, functions, imports, is_exported, function_claim}
+use Rattle.bed_link.specs.Parts.{numbered, parts_from, functions, imports, is_exported, function_claim}
 use Rattle.bed_link.specs.Resolved.{function_entry, loop_entry}
-use Rattle.bed_link.specs.Seen.{entries_from, loops_from, module_of}
+use Rattle.bed_link.specs.Seen.{entries_from, loop_at, loops_from, module_of}
 use Rattle.bed_link.proofs.FaultLemmas.{split}
 
 -- ---- parts, module by module
@@ -21,16 +21,16 @@ use Rattle.bed_link.proofs.FaultLemmas.{split}
 pub parts_step : {T : Type 0} (listed : Module → List T) (modules : List InScope) (i : ℕ) (s : InScope) (m : Module) (before whole : List (T × ℕ))
     → i < length modules → s ≡ get_or modules i s → m ≡ module_of s
     → before ++ parts_from listed i (map module_of (drop i modules)) ≡ whole
-    → (before ++ map (λ t. (t, i)) (listed m)) ++ parts_from listed (i + 1) (map module_of (drop (i + 1) modules)) ≡ whole
+    → (before ++ map (numbered i) (listed m)) ++ parts_from listed (i + 1) (map module_of (drop (i + 1) modules)) ≡ whole
 parts_step listed modules i s m before whole lt is e h =
-    append_assoc before (map (λ t. (t, i)) (listed m)) _
-    ∙ ap (λ m. before ++ (map (λ t. (t, i)) (listed m) ++ parts_from listed (i + 1) (map module_of (drop (i + 1) modules)))) e
+    append_assoc before (map (numbered i) (listed m)) _
+    ∙ ap (λ m. before ++ (map (numbered i) (listed m) ++ parts_from listed (i + 1) (map module_of (drop (i + 1) modules)))) e
     ∙ ap (λ l. before ++ parts_from listed i (map module_of l)) (sym (split modules i s lt is))
     ∙ h
 
 -- ---- functions
 
-first : {T : Type 0} (n : ℕ) (ts : List T) → map (λ (p : T × ℕ). p.0) (map (λ t. (t, n)) ts) ≡ ts
+first : {T : Type 0} (n : ℕ) (ts : List T) → map (λ (p : T × ℕ). p.0) (map (numbered n) ts) ≡ ts
 first n [] = refl
 first n (t ∷ ts) = ap (λ l. t ∷ l) (first n ts)
 
@@ -43,7 +43,7 @@ functions_from [] n = refl
 functions_from (m ∷ ms) n =
     map-append (λ (d : Defined). d.function) (defined_in m) (all_defined ms)
     ∙ ap₂ (λ k l. k ++ l) (defined_functions m.signatures m.functions ∙ sym (first n m.functions)) (functions_from ms (n + 1))
-    ∙ sym (map-append (λ (f : Function × ℕ). f.0) (map (λ t. (t, n)) m.functions) (parts_from (λ m. m.functions) (n + 1) ms))
+    ∙ sym (map-append (λ (f : Function × ℕ). f.0) (map (numbered n) m.functions) (parts_from (λ m. m.functions) (n + 1) ms))
 
 pub functions_are : (ms : List Module) → map (λ (d : Defined). d.function) (all_defined ms) ≡ map (λ (f : Function × ℕ). f.0) (functions ms)
 functions_are ms = functions_from ms 0
@@ -54,12 +54,14 @@ total_is (d ∷ ds) = ap (λ n. (function_piece d.function).size + n) (total_is 
 
 pub entries_are : (at : ℕ) (ds : List Defined) → map function_entry (placed_from at ds) ≡ entries_from at (map (λ (d : Defined). d.function) ds)
 entries_are at [] = refl
-entries_are at (d ∷ ds) = ap (λ l. (d.function.name, at, d.function.exported) ∷ l) (entries_are (at + (function_piece d.function).size) ds)
+entries_are at (d ∷ ds) =
+    let here : Name × ℕ × Bool = (d.function.name, at, d.function.exported) in
+    ap (λ l. here ∷ l) (entries_are (at + (function_piece d.function).size) ds)
 
 heads_are : (number : ℕ) (hs : List Head)
-    → map loop_entry (map (λ h. record { function = number; head = h }) hs) ≡ map (λ h. (number, h.address)) hs
+    → map loop_entry (map (λ h. record { function = number; head = h }) hs) ≡ map (loop_at number) (map (λ h. h.address) hs)
 heads_are number [] = refl
-heads_are number (h ∷ hs) = ap (λ l. (number, h.address) ∷ l) (heads_are number hs)
+heads_are number (h ∷ hs) = ap (λ l. loop_at number h.address ∷ l) (heads_are number hs)
 
 pub loops_are : (number at : ℕ) (ds : List Defined)
     → map loop_entry (layout.loops_from number (placed_from at ds)) ≡ loops_from number at (map (λ (d : Defined). d.function) ds)
@@ -73,7 +75,7 @@ loops_are number at (d ∷ ds) =
 
 -- ---- imports
 
-import_names_of : (n : ℕ) (is : List Import) → map (λ (i : Import × ℕ). i.0.name) (map (λ t. (t, n)) is) ≡ map (λ (i : Import). i.name) is
+import_names_of : (n : ℕ) (is : List Import) → map (λ (i : Import × ℕ). i.0.name) (map (numbered n) is) ≡ map (λ (i : Import). i.name) is
 import_names_of n [] = refl
 import_names_of n (i ∷ is) = ap (λ l. i.name ∷ l) (import_names_of n is)
 
@@ -81,7 +83,7 @@ imported_from : (ms : List Module) (n : ℕ) → imported ms ≡ map (λ (i : Im
 imported_from [] n = refl
 imported_from (m ∷ ms) n =
     ap₂ (λ k l. k ++ l) (sym (import_names_of n m.imports)) (imported_from ms (n + 1))
-    ∙ sym (map-append (λ (i : Import × ℕ). i.0.name) (map (λ t. (t, n)) m.imports) (parts_from (λ m. m.imports) (n + 1) ms))
+    ∙ sym (map-append (λ (i : Import × ℕ). i.0.name) (map (numbered n) m.imports) (parts_from (λ m. m.imports) (n + 1) ms))
 
 pub imported_are : (ms : List Module) → imported ms ≡ map (λ (i : Import × ℕ). i.0.name) (imports ms)
 imported_are ms = imported_from ms 0

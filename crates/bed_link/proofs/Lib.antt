@@ -3,3 +3,4 @@ mod TableLemmas
 mod LayoutLemmas
 mod OutsideLemmas
 mod HeadLemmas
+pub mod StandingLaws

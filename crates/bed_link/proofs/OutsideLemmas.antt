@@ -20,11 +20,11 @@ use Rattle.bed_link.proofs.LayoutLemmas.{functions_are, exports_are, imported_ar
 
 -- ---- parts of an empty list
 
-left_none : (xs ys : List LinkError) → xs ++ ys ≡ [] → xs ≡ []
+pub left_none : (xs ys : List LinkError) → xs ++ ys ≡ [] → xs ≡ []
 left_none [] ys e = refl
 left_none (x ∷ xs) ys e = cc
 
-right_none : (xs ys : List LinkError) → xs ++ ys ≡ [] → ys ≡ []
+pub right_none : (xs ys : List LinkError) → xs ++ ys ≡ [] → ys ≡ []
 right_none [] ys e = e
 right_none (x ∷ xs) ys e = cc
 
@@ -47,7 +47,7 @@ exports_by_names ms x =
     ∙ ap (λ fs. is_among (map (λ (f : Function). f.name) (filter (λ (f : Function). f.exported) fs)) x) (functions_are ms)
     ∙ ap (λ ns. is_among ns x) (sym (claims_named (functions ms)))
 
-names_twice : (fs : List (Function × ℕ)) → map (λ (f : Function). f.name) (map (λ (f : Function × ℕ). f.0) fs) ≡ map (λ (f : Function × ℕ). f.0.name) fs
+pub names_twice : (fs : List (Function × ℕ)) → map (λ (f : Function). f.name) (map (λ (f : Function × ℕ). f.0) fs) ≡ map (λ (f : Function × ℕ). f.0.name) fs
 names_twice [] = refl
 names_twice (f ∷ fs) = ap (λ l. f.0.name ∷ l) (names_twice fs)
 
@@ -106,11 +106,14 @@ all_given ds given seen (n ∷ ns) none all =
     by_test false true eg false h later = later (seen ++ n ∷ []) h (given_more given seen n all eg)
     by_test false false eg s h later = cc
 
+abbrev addressed : (Name → ℕ) → Name → Name × ℕ
+addressed f x = (x, f x)
+
 map_given : (given ns : List Name) (f g : Name → ℕ) → ((n : Name) → is_among given n.bytes ≡ true → f n ≡ g n) → AllGiven given ns
-    → map (λ x. (x, f x)) ns ≡ map (λ x. (x, g x)) ns
+    → map (addressed f) ns ≡ map (addressed g) ns
 map_given given [] f g same all = refl
 map_given given (n ∷ ns) f g same all =
-    ap (λ a. (n, a) ∷ map (λ x. (x, f x)) ns) (same n all.0) ∙ ap (λ l. (n, g n) ∷ l) (map_given given ns f g same all.1)
+    ap (λ a. addressed (λ m. a) n ∷ map (addressed f) ns) (same n all.0) ∙ ap (λ l. addressed g n ∷ l) (map_given given ns f g same all.1)
 
 -- where no rule before the last is broken, the outside imports have the addresses that are given for them
 module _ (ms : List Module) (given : List (Name × ℕ)) (base : ℕ) (none : before_faults ms given base ≡ []) where

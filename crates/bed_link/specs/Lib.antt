@@ -3,3 +3,4 @@ pub mod Faults
 pub mod Linkable
 pub mod Resolved
 pub mod Seen
+pub mod Laws

@@ -90,9 +90,13 @@ length_faults base length = fault_if (is_too_long base length) (CodeTooLong (min
 
 -- ---- each outside address is outside the code, and no other import's
 
+-- a name with the first address that is given for it
+abbrev pub with_given : List (Name × ℕ) → Name → Name × ℕ
+with_given given x = (x, address_of (map import_label given) x.bytes)
+
 -- the imports that no module exports, with the addresses that are given for them
 abbrev pub outside : List Module → List (Name × ℕ) → List (Name × ℕ)
-outside modules given = map (λ x. (x, address_of (map import_label given) x.bytes)) (outside_imports modules)
+outside modules given = map (with_given given) (outside_imports modules)
 
 abbrev pub lies_in : ℕ → ℕ → ℕ → Bool
 lies_in base length address = nat_le base address && nat_lt address (base + length)

@@ -7,9 +7,12 @@ use Rattle.bed_lang.specs.declared.module.Import.{Import}
 use Rattle.bed_lang.specs.declared.module.Function.{Function}
 use Rattle.bed_lang.specs.declared.module.Module.{Module}
 
+abbrev pub numbered : {T : Type 0} → ℕ → T → T × ℕ
+numbered number t = (t, number)
+
 abbrev pub parts_from : {T : Type 0} → (Module → List T) → ℕ → List Module → List (T × ℕ)
 parts_from listed number [] = []
-parts_from listed number (m ∷ ms) = map (λ t. (t, number)) (listed m) ++ parts_from listed (number + 1) ms
+parts_from listed number (m ∷ ms) = map (numbered number) (listed m) ++ parts_from listed (number + 1) ms
 
 abbrev pub parts : {T : Type 0} → (Module → List T) → List Module → List (T × ℕ)
 parts listed modules = parts_from listed 0 modules

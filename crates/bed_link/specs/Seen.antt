@@ -8,11 +8,15 @@ use Rattle.bed_names.specs.Tables.{number_of}
 use Rattle.bed_table.specs.Layout.{is_among}
 use Rattle.bed_table.specs.Code.{function_piece}
 use Rattle.bed_link.specs.Parts as parts
+use Rattle.bed_link.specs.declared.parts.Part.{Part}
 use Rattle.bed_link.specs.declared.differing.Claim.{Claim}
 use Rattle.bed_link.specs.declared.outside.Outside.{Outside}
 
 abbrev pub module_of : InScope → Module
 module_of s = s.«module»
+
+abbrev pub pair_of : {T : Type 0} → Part T → T × ℕ
+pair_of p = (p.item.now, p.number)
 
 abbrev pub claim_of : Claim → parts.Claim
 claim_of c = record { name = c.name.now; signature = c.signature.now; «module» = c.number }
@@ -33,7 +37,11 @@ entries_from at [] = []
 entries_from at (f ∷ fs) = (f.name, at, f.exported) ∷ entries_from (at + (function_piece f).size) fs
 
 -- the loops of functions one right after the other from an address, with the functions' numbers
+-- a loop's function's number, and its head's address
+abbrev pub loop_at : ℕ → ℕ → ℕ × ℕ
+loop_at number head = (number, head)
+
 abbrev pub loops_from : ℕ → ℕ → List Function → List (ℕ × ℕ)
 loops_from number at [] = []
 loops_from number at (f ∷ fs) =
-    map (λ h. (number, h.address)) ((function_piece f).heads at) ++ loops_from (number + 1) (at + (function_piece f).size) fs
+    map (loop_at number) (map (λ h. h.address) ((function_piece f).heads at)) ++ loops_from (number + 1) (at + (function_piece f).size) fs

@@ -1,12 +1,10 @@
 //! Names that are declared in two ways.
-#![tactic(auto, using(crate::proofs::FaultLemmas::append_none, crate::proofs::FaultLemmas::refusal_first, crate::proofs::FaultLemmas::refusal_later))]
-
 ghost use Rattle.std.specs.Prelude.{◌≡◌, ◌≢◌, [], ◌++◌, map, filter, length, ◌≤◌, Some, OnOk, IfOk, IfErr};
 ghost use Rattle.bed_names.specs.Tables.{item_at};
 ghost use Rattle.bed_link.specs.Parts as parts;
 ghost use Rattle.bed_link.specs.Faults.{refusal, differs_from, differing};
 ghost use Rattle.bed_link.specs.Linkable as linkable;
-ghost use Rattle.bed_link.specs.Seen.{claim_of, module_of};
+ghost use Rattle.bed_link.specs.Seen.{claim_of, module_of, pair_of};
 
 use crate::error::{LinkError, differs};
 use crate::parts::{Item, Part, parts};
@@ -140,7 +138,7 @@ fn push_functions<'a>(
     out: &mut Vec<Claim<'a>>,
     functions: &[Part<'a, Function>],
 ) -> Result<(), AllocError>
-    ensures { OnOk result (map claim_of out.new.items ≡ map claim_of out.old.items ++ map parts.function_claim (filter parts.is_exported (map (λ p. (p.item.now, p.number)) functions.now))) }
+    ensures { OnOk result (map claim_of out.new.items ≡ map claim_of out.old.items ++ map parts.function_claim (filter parts.is_exported (map pair_of functions.now))) }
 {
     for part in functions {
         if part.item.exported {
@@ -159,7 +157,7 @@ fn push_imports<'a>(
     out: &mut Vec<Claim<'a>>,
     imports: &[Part<'a, Import>],
 ) -> Result<(), AllocError>
-    ensures { OnOk result (map claim_of out.new.items ≡ map claim_of out.old.items ++ map parts.import_claim (map (λ p. (p.item.now, p.number)) imports.now)) }
+    ensures { OnOk result (map claim_of out.new.items ≡ map claim_of out.old.items ++ map parts.import_claim (map pair_of imports.now)) }
 {
     for part in imports {
         out.push(Claim {
@@ -177,7 +175,7 @@ fn claims<'a>(
     functions: &[Part<'a, Function>],
     imports: &[Part<'a, Import>],
 ) -> Result<Vec<Claim<'a>>, AllocError>
-    ensures { IfOk result (λ v. map claim_of v.items ≡ map parts.function_claim (filter parts.is_exported (map (λ p. (p.item.now, p.number)) functions.now)) ++ map parts.import_claim (map (λ p. (p.item.now, p.number)) imports.now)) }
+    ensures { IfOk result (λ v. map claim_of v.items ≡ map parts.function_claim (filter parts.is_exported (map pair_of functions.now)) ++ map parts.import_claim (map pair_of imports.now)) }
 {
     let mut out = Vec::new(alloc);
     push_functions(&mut out, functions)?;
@@ -191,14 +189,15 @@ fn claims_agree(
     functions: &[Part<Function>],
     imports: &[Part<Import>],
 ) -> Result<(), LinkError>
-    ensures accepted { OnOk result (linkable.claim_faults (map parts.function_claim (filter parts.is_exported (map (λ p. (p.item.now, p.number)) functions.now)) ++ map parts.import_claim (map (λ p. (p.item.now, p.number)) imports.now)) ≡ []) }
-    ensures refused { IfErr result (λ e. e ≢ LinkError.Memory → refusal (linkable.claim_faults (map parts.function_claim (filter parts.is_exported (map (λ p. (p.item.now, p.number)) functions.now)) ++ map parts.import_claim (map (λ p. (p.item.now, p.number)) imports.now))) ≡ Some e) }
+    ensures accepted { OnOk result (linkable.claim_faults (map parts.function_claim (filter parts.is_exported (map pair_of functions.now)) ++ map parts.import_claim (map pair_of imports.now)) ≡ []) }
+    ensures refused { IfErr result (λ e. e ≢ LinkError.Memory → refusal (linkable.claim_faults (map parts.function_claim (filter parts.is_exported (map pair_of functions.now)) ++ map parts.import_claim (map pair_of imports.now))) ≡ Some e) }
 {
     let claims = claims(alloc, functions, imports)?;
     all_agree(alloc, claims.as_slice())
 }
 
 /// Each signature and predicate has one tree, and each function and import one signature.
+#[tactic(auto, using(crate::proofs::FaultLemmas::append_none, crate::proofs::FaultLemmas::refusal_first, crate::proofs::FaultLemmas::refusal_later))]
 pub(crate) fn none_differs(
     alloc: Global,
     modules: &[Scoped],
@@ -206,8 +205,8 @@ pub(crate) fn none_differs(
     imports: &[Part<Import>],
 ) -> Result<(), LinkError>
     requires few { length modules.now ≤ 64 }
-    requires functions { map (λ p. (p.item.now, p.number)) functions.now ≡ parts.functions (map module_of modules.now) }
-    requires imports { map (λ p. (p.item.now, p.number)) imports.now ≡ parts.imports (map module_of modules.now) }
+    requires functions { map pair_of functions.now ≡ parts.functions (map module_of modules.now) }
+    requires imports { map pair_of imports.now ≡ parts.imports (map module_of modules.now) }
     ensures accepted { OnOk result (linkable.differs_faults (map module_of modules.now) ≡ []) }
     ensures refused { IfErr result (λ e. e ≢ LinkError.Memory → refusal (linkable.differs_faults (map module_of modules.now)) ≡ Some e) }
 {

@@ -1,8 +1,8 @@
 //! What stands where in the code of linked modules.
-ghost use Rattle.std.specs.Prelude.{◌≡◌, ◌+◌, ◌^◌, ◌<◌, ◌≤◌, ◌∷◌, ◌++◌, [], ℕ, Contains, map, IfOk, OnOk};
+ghost use Rattle.std.specs.Prelude.{◌≡◌, ◌+◌, ◌^◌, ◌<◌, ◌≤◌, ◌∷◌, ◌++◌, All, [], map, IfOk, OnOk};
 ghost use Rattle.bed_table.specs.Code.{function_piece};
 ghost use Rattle.bed_table.specs.Layout.{sum_of_sizes};
-ghost use Rattle.bed_link.specs.Seen.{entries_from, loops_from, outside_of};
+ghost use Rattle.bed_link.specs.Seen.{entries_from, loop_at, loops_from, outside_of};
 
 use crate::outside::Outside;
 use crate::parts::Part;
@@ -62,8 +62,8 @@ fn push_loops(
     number: u32,
     heads: &[u64],
 ) -> Result<(), AllocError>
-    requires { (h : ℕ) → Contains heads.now h → h < 2 ^ 32 }
-    ensures { OnOk result (out.new ≡ out.old ++ map (λ h. (number, h)) heads.now) }
+    requires { All (λ h. h < 2 ^ 32) heads.now }
+    ensures { OnOk result (out.new ≡ out.old ++ map (loop_at number) heads.now) }
 {
     for head in heads {
         out.push((number, *head as u32))?;
@@ -80,7 +80,7 @@ fn push_function_loops(
     function: &Function,
 ) -> Result<(), AllocError>
     requires { at + (function_piece function.now).size ≤ 2 ^ 32 }
-    ensures { OnOk result (out.new ≡ out.old ++ map (λ h. (number, h.address)) ((function_piece function.now).heads at)) }
+    ensures { OnOk result (out.new ≡ out.old ++ map (loop_at number) (map (λ h. h.address) ((function_piece function.now).heads at))) }
 {
     let mut heads = Vec::new(alloc);
     push_function_heads(&mut heads, at, function)?;

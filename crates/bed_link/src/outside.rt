@@ -3,7 +3,7 @@ ghost use Rattle.std.specs.Prelude.{◌≡◌, ◌≢◌, ℕ, List, [], ◌∷�
 ghost use Rattle.bed_names.specs.Tables.{IsIndex, number_of};
 ghost use Rattle.bed_table.specs.Layout.{Defined, address_of, import_label, exports, outside_names};
 ghost use Rattle.bed_link.specs.Faults.{refusal};
-ghost use Rattle.bed_link.specs.Linkable.{address_faults, lies_in, is_shared as is_shared_by};
+ghost use Rattle.bed_link.specs.Linkable.{address_faults, lies_in as lies_in_code, is_shared as is_shared_by, with_given};
 ghost use Rattle.bed_link.specs.Seen.{Knows, outside_of};
 
 use crate::error::{LinkError, bad_address};
@@ -47,7 +47,11 @@ fn outside_names_of<'a>(
     for (number, part) in imports.iter().enumerate() {
         let name = &part.item.name;
         let bytes = name.bytes.as_slice();
-        if exported.get(bytes).is_none() && seen.add(bytes, number)? {
+        if exported.get(bytes).is_some() {
+            continue;
+        }
+        let is_new = seen.add(bytes, number)?;
+        if is_new {
             out.push(name)?;
         }
     }
@@ -60,7 +64,7 @@ fn with_addresses<'a>(
     given: &[(Name, u32)],
     imports: &[&'a Name],
 ) -> Result<Vec<Outside<'a>>, AllocError>
-    ensures { IfOk result (λ v. map outside_of v.items ≡ map (λ n. (n.now, address_of (map import_label given.now) n.now.bytes)) imports.now) }
+    ensures { IfOk result (λ v. map outside_of v.items ≡ map (λ n. with_given given.now n.now) imports.now) }
 {
     let table = names(alloc, given)?;
     let mut out = Vec::new(alloc);
@@ -78,7 +82,7 @@ pub(crate) fn outside_imports<'a>(
     imports: &[Part<'a, Import>],
     given: &[(Name, u32)],
 ) -> Result<Vec<Outside<'a>>, AllocError>
-    ensures { IfOk result (λ v. (ds : List Defined) → map (λ d. d.function) ds ≡ map (λ p. p.item.now) functions.now → map outside_of v.items ≡ map (λ n. (n, address_of (map import_label given.now) n.bytes)) (outside_names ds [] (map (λ p. p.item.now.name) imports.now))) }
+    ensures { IfOk result (λ v. (ds : List Defined) → map (λ d. d.function) ds ≡ map (λ p. p.item.now) functions.now → map outside_of v.items ≡ map (with_given given.now) (outside_names ds [] (map (λ p. p.item.now.name) imports.now))) }
 {
     let exported = exported(alloc, functions)?;
     let imports = outside_names_of(alloc, &exported, imports)?;
@@ -98,6 +102,13 @@ fn is_shared(imports: &[Outside], address: u32) -> bool
     count > 1
 }
 
+// Whether an address lies in the code.
+fn lies_in(base: u32, length: u32, address: u32) -> bool
+    ensures { result ≡ lies_in_code base length address }
+{
+    base <= address && (address as u64) < base as u64 + length as u64
+}
+
 /// No import has an address in the code, or that of another.
 pub(crate) fn all_apart(
     alloc: Global,
@@ -108,10 +119,9 @@ pub(crate) fn all_apart(
     ensures accepted { OnOk result (address_faults base length (map outside_of imports.now) ≡ []) }
     ensures refused { IfErr result (λ e. e ≢ LinkError.Memory → refusal (address_faults base length (map outside_of imports.now)) ≡ Some e) }
 {
-    let end = base as u64 + length as u64;
     for import in imports {
         let address = import.address;
-        if base <= address && (address as u64) < end || is_shared(imports, address) {
+        if lies_in(base, length, address) || is_shared(imports, address) {
             return Err(bad_address(alloc, import.name));
         }
     }

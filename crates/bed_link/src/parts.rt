@@ -1,8 +1,8 @@
 //! What modules declare, each with the number of its module.
 ghost use Rattle.std.specs.Prelude.{◌≡◌, ◌≤◌, ◌++◌, map, length, IfOk, OnOk};
 ghost use Rattle.bed_lang.specs.declared.module.Module.{Module};
-ghost use Rattle.bed_link.specs.Parts.{parts as parts_in};
-ghost use Rattle.bed_link.specs.Seen.{module_of};
+ghost use Rattle.bed_link.specs.Parts.{numbered, parts as parts_in};
+ghost use Rattle.bed_link.specs.Seen.{module_of, pair_of};
 
 use bed_lang::{Function, Import, Module, Name, Predicate, Signature};
 use bed_names::Scoped;
@@ -95,7 +95,7 @@ fn push_parts<'a, T: Item>(
     source: &'a Module,
     number: u32,
 ) -> Result<(), AllocError>
-    ensures { OnOk result (map (λ p. (p.item.now, p.number)) out.new.items ≡ map (λ p. (p.item.now, p.number)) out.old.items ++ map (λ t. (t, number)) (T.listed source.now)) }
+    ensures { OnOk result (map pair_of out.new.items ≡ map pair_of out.old.items ++ map (numbered number) (T.listed source.now)) }
 {
     let items = T::listed(source);
     for item in items {
@@ -110,7 +110,7 @@ pub(crate) fn parts<'a, T: Item>(
     modules: &'a [Scoped],
 ) -> Result<Vec<Part<'a, T>>, AllocError>
     requires { length modules.now ≤ 64 }
-    ensures { IfOk result (λ v. map (λ p. (p.item.now, p.number)) v.items ≡ parts_in T.listed (map module_of modules.now)) }
+    ensures { IfOk result (λ v. map pair_of v.items ≡ parts_in T.listed (map module_of modules.now)) }
 {
     let mut out = Vec::new(alloc);
     let mut number: u32 = 0;

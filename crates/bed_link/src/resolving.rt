@@ -1,13 +1,11 @@
 //! Linking: the five rules in their order, and the layout.
-#![tactic(auto, using(crate::proofs::FaultLemmas::append_none, crate::proofs::FaultLemmas::refusal_first, crate::proofs::FaultLemmas::refusal_later))]
-
 ghost use Rattle.std.specs.Prelude.{◌≡◌, ◌≢◌, ◌≤◌, ◌+◌, ◌^◌, [], map, length, Some, OnOk, IfOk, IfErr};
 ghost use Rattle.bed_table.specs.Layout.{sum_of_sizes, code_length};
 ghost use Rattle.bed_link.specs.Parts as parts_of;
 ghost use Rattle.bed_link.specs.Faults.{refusal};
 ghost use Rattle.bed_link.specs.Linkable.{IsLinkable, link_refusal, before_faults};
 ghost use Rattle.bed_link.specs.Resolved.{resolved};
-ghost use Rattle.bed_link.specs.Seen.{module_of};
+ghost use Rattle.bed_link.specs.Seen.{module_of, pair_of};
 
 use crate::differing::none_differs;
 use crate::error::LinkError;
@@ -22,6 +20,7 @@ use bed_names::Scoped;
 use std::alloc::Global;
 
 // The length of the code, where no rule before the last is broken.
+#[tactic(auto, using(crate::proofs::FaultLemmas::append_none, crate::proofs::FaultLemmas::refusal_first, crate::proofs::FaultLemmas::refusal_later))]
 fn judged(
     alloc: Global,
     modules: &[Scoped],
@@ -31,8 +30,8 @@ fn judged(
     base: u32,
 ) -> Result<u32, LinkError>
     requires few { length modules.now ≤ 64 }
-    requires functions { map (λ p. (p.item.now, p.number)) functions.now ≡ parts_of.functions (map module_of modules.now) }
-    requires imports { map (λ p. (p.item.now, p.number)) imports.now ≡ parts_of.imports (map module_of modules.now) }
+    requires functions { map pair_of functions.now ≡ parts_of.functions (map module_of modules.now) }
+    requires imports { map pair_of imports.now ≡ parts_of.imports (map module_of modules.now) }
     ensures accepted { OnOk result (before_faults (map module_of modules.now) given.now base ≡ []) }
     ensures length { IfOk result (λ n. n ≡ code_length (map module_of modules.now)) }
     ensures within { OnOk result (base + sum_of_sizes (map (λ p. p.item.now) functions.now) ≤ 2 ^ 32) }
@@ -45,6 +44,7 @@ fn judged(
 }
 
 // The layout, where no rule is broken.
+#[tactic(auto, using(crate::proofs::FaultLemmas::append_none, crate::proofs::FaultLemmas::refusal_first, crate::proofs::FaultLemmas::refusal_later))]
 fn placed(
     alloc: Global,
     modules: &[Scoped],
@@ -54,8 +54,8 @@ fn placed(
     base: u32,
 ) -> Result<Linked, LinkError>
     requires few { length modules.now ≤ 64 }
-    requires functions { map (λ p. (p.item.now, p.number)) functions.now ≡ parts_of.functions (map module_of modules.now) }
-    requires imports { map (λ p. (p.item.now, p.number)) imports.now ≡ parts_of.imports (map module_of modules.now) }
+    requires functions { map pair_of functions.now ≡ parts_of.functions (map module_of modules.now) }
+    requires imports { map pair_of imports.now ≡ parts_of.imports (map module_of modules.now) }
     ensures linkable { OnOk result (IsLinkable (map module_of modules.now) given.now base) }
     ensures linked { IfOk result (λ l. l ≡ resolved (map module_of modules.now) given.now base) }
     ensures refused { IfErr result (λ e. e ≢ LinkError.Memory → link_refusal (map module_of modules.now) given.now base ≡ Some e) }

@@ -1,6 +1,4 @@
 //! Names that are declared twice.
-#![tactic(auto, using(crate::proofs::FaultLemmas::append_none, crate::proofs::FaultLemmas::refusal_first, crate::proofs::FaultLemmas::refusal_later))]
-
 ghost use Rattle.std.specs.Prelude.{◌≡◌, ◌≢◌, [], map, Some, OnOk, IfOk, IfErr};
 ghost use Rattle.bed_names.specs.Tables.{IsIndex};
 ghost use Rattle.bed_link.specs.Faults.{refusal};
@@ -56,7 +54,8 @@ pub(crate) fn distinct<T: Named>(alloc: Global, items: &[T]) -> Result<Table, Li
     let mut table = Table::new(alloc);
     for (number, item) in items.iter().enumerate() {
         let name = item.name();
-        if !table.add(name.bytes.as_slice(), number)? {
+        let is_new = table.add(name.bytes.as_slice(), number)?;
+        if !is_new {
             return Err(twice(alloc, name));
         }
     }
@@ -64,6 +63,7 @@ pub(crate) fn distinct<T: Named>(alloc: Global, items: &[T]) -> Result<Table, Li
 }
 
 // No item has a name of the table.
+#[tactic(auto, using(crate::proofs::FaultLemmas::append_none, crate::proofs::FaultLemmas::refusal_first, crate::proofs::FaultLemmas::refusal_later))]
 fn apart<T: Named>(alloc: Global, given: &Table, items: &[T]) -> Result<(), LinkError>
     ensures accepted { OnOk result (given_twice (knows given.now) (map T.name_of items.now) ≡ []) }
     ensures refused { IfErr result (λ e. e ≢ LinkError.Memory → refusal (given_twice (knows given.now) (map T.name_of items.now)) ≡ Some e) }
@@ -78,6 +78,7 @@ fn apart<T: Named>(alloc: Global, given: &Table, items: &[T]) -> Result<(), Link
 }
 
 /// No name is there twice.
+#[tactic(auto, using(crate::proofs::FaultLemmas::append_none, crate::proofs::FaultLemmas::refusal_first, crate::proofs::FaultLemmas::refusal_later))]
 pub(crate) fn no_name_twice(
     alloc: Global,
     modules: &[Scoped],

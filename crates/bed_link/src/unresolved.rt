@@ -1,6 +1,4 @@
 //! Imports that nothing resolves, and given addresses that nothing uses.
-#![tactic(auto, using(crate::proofs::FaultLemmas::append_none, crate::proofs::FaultLemmas::refusal_first, crate::proofs::FaultLemmas::refusal_later))]
-
 ghost use Rattle.std.specs.Prelude.{◌≡◌, ◌≢◌, [], map, filter, Some, OnOk, IfOk, IfErr};
 ghost use Rattle.bed_names.specs.Tables.{IsIndex};
 ghost use Rattle.bed_link.specs.Faults.{refusal};
@@ -53,6 +51,7 @@ pub(crate) fn names<T: Named>(alloc: Global, items: &[T]) -> Result<Table, Alloc
 }
 
 // Each import is an exported function or has a given address.
+#[tactic(auto, using(crate::proofs::FaultLemmas::append_none, crate::proofs::FaultLemmas::refusal_first, crate::proofs::FaultLemmas::refusal_later))]
 fn all_found(
     alloc: Global,
     exported: &Table,
@@ -72,6 +71,7 @@ fn all_found(
 }
 
 // Each given address is that of an import.
+#[tactic(auto, using(crate::proofs::FaultLemmas::append_none, crate::proofs::FaultLemmas::refusal_first, crate::proofs::FaultLemmas::refusal_later))]
 fn all_used(alloc: Global, imported: &Table, given: &[(Name, u32)]) -> Result<(), LinkError>
     ensures accepted { OnOk result (unused (knows imported.now) (map (λ g. g.0) given.now) ≡ []) }
     ensures refused { IfErr result (λ e. e ≢ LinkError.Memory → refusal (unused (knows imported.now) (map (λ g. g.0) given.now)) ≡ Some e) }
