@@ -116,9 +116,10 @@ pub(crate) fn all_agree<T: Declared>(alloc: Global, items: &[T]) -> Result<(), L
     let mut table = Table::new(alloc);
     for (number, item) in items.iter().enumerate() {
         let name = item.name();
-        let first = table.get(name.bytes.as_slice());
+        let bytes = name.bytes.as_slice();
+        let first = table.get(bytes);
         agrees(alloc, items, first, item)?;
-        table.add(name.bytes.as_slice(), number)?;
+        table.add(bytes, number)?;
     }
     Ok(())
 }
