@@ -1,9 +1,10 @@
 -- Lists of faults, us loops go over the items of a list.
-use Rattle.std.proofs.Common.{◌≡◌, ◌∙◌, sym, ap, refl, ℕ, suc, ◌+◌, ◌<◌, ◌≤◌, add-one, Bool, true, false, cond, not, List, [], ◌∷◌, ◌++◌, map, length, take, drop, get_or, Option, None, Some, drop-cons, drop_of_length-le, append_assoc, append-nil, bytes_eq}
+use Rattle.std.proofs.Common.{◌≡◌, ◌∙◌, sym, ap, refl, ℕ, suc, ◌+◌, ◌<◌, ◌≤◌, add-one, Bool, true, false, cond, not, List, [], ◌∷◌, ◌++◌, map, length, take, drop, get_or, Option, None, Some, drop-cons, drop_of_length-le, append_assoc, append-nil, bytes_eq, filter, Result, Ok, Err, OnOk, IfErr, ◌≢◌}
 use Rattle.std.specs.Prelude.{find, option_map}
 use Rattle.std.proofs.lemmas.List.{take_more, map-append}
 use Rattle.bed_lang.specs.declared.word.Name.{Name}
 use Rattle.bed_link.specs.declared.error.LinkError.{LinkError}
+use Rattle.bed_link.specs.declared.error.LinkError.TheVariants.{Memory}
 use Rattle.bed_link.specs.Faults.{refusal, fault_if, each, each_after, differs_from, first_named, differing}
 
 -- ---- one list after another
@@ -20,6 +21,22 @@ refusal_later xs ys e none h = ap (λ l. refusal (l ++ ys)) none ∙ h
 
 pub split : {T : Type 0} (xs : List T) (i : ℕ) (x : T) → i < length xs → x ≡ get_or xs i x → drop i xs ≡ x ∷ drop (i + 1) xs
 split xs i x lt is = rw add-one (drop-cons xs i x lt ∙ ap (λ y. y ∷ drop (suc i) xs) (sym is))
+
+-- ---- results
+
+pub accepted_map : {A : Type 0} (r : Result A LinkError) (P Q : Type 0) → (P → Q) → OnOk r P → OnOk r Q
+accepted_map (Ok a) P Q f h = f h
+accepted_map (Err e) P Q f h = tt
+
+pub refused_map : {A : Type 0} (r : Result A LinkError) (us vs : List LinkError) → ((e : LinkError) → refusal us ≡ Some e → refusal vs ≡ Some e)
+    → IfErr r (λ e. e ≢ Memory → refusal us ≡ Some e) → IfErr r (λ e. e ≢ Memory → refusal vs ≡ Some e)
+refused_map (Ok a) us vs f h = tt
+refused_map (Err e) us vs f h = λ no. f e (h no)
+
+pub told_map : {A : Type 0} (r : Result A LinkError) (us vs : List LinkError) → ((e : LinkError) → refusal us ≡ Some e → refusal vs ≡ Some e)
+    → IfErr r (λ e. refusal us ≡ Some e) → IfErr r (λ e. e ≢ Memory → refusal vs ≡ Some e)
+told_map (Ok a) us vs f h = tt
+told_map (Err e) us vs f h = λ no. f e h
 
 -- ---- each item by itself
 
@@ -38,6 +55,19 @@ module _ {T : Type 0} (F : T → List LinkError) where
 
   pub each_end : (xs : List T) (i : ℕ) (whole : List LinkError) → length xs ≤ i → each F (drop i xs) ≡ whole → whole ≡ []
   each_end xs i whole le h = sym h ∙ ap (each F) (drop_of_length-le xs le)
+
+pub mapped_step : {A T : Type 0} (g : A → T) (F : T → List LinkError) (xs : List A) (i : ℕ) (x : A) (whole : List LinkError) → i < length xs
+    → x ≡ get_or xs i x → F (g x) ≡ [] → each F (map g (drop i xs)) ≡ whole → each F (map g (drop (i + 1) xs)) ≡ whole
+mapped_step g F xs i x whole lt is none h =
+    ap (λ l. l ++ each F (map g (drop (i + 1) xs))) (sym none) ∙ ap (λ l. each F (map g l)) (sym (split xs i x lt is)) ∙ h
+
+pub mapped_refused : {A T : Type 0} (g : A → T) (F : T → List LinkError) (xs : List A) (i : ℕ) (x : A) (whole : List LinkError) (e : LinkError)
+    → i < length xs → x ≡ get_or xs i x → refusal (F (g x)) ≡ Some e → each F (map g (drop i xs)) ≡ whole → refusal whole ≡ Some e
+mapped_refused g F xs i x whole e lt is r h =
+    ap refusal (sym h ∙ ap (λ l. each F (map g l)) (split xs i x lt is)) ∙ refusal_first (F (g x)) (each F (map g (drop (i + 1) xs))) e r
+
+pub filtered_end : {A : Type 0} (p : A → Bool) (xs out whole : List A) (i : ℕ) → length xs ≤ i → out ++ filter p (drop i xs) ≡ whole → out ≡ whole
+filtered_end p xs out whole i le h = sym (append-nil out) ∙ ap (λ l. out ++ filter p l) (sym (drop_of_length-le xs le)) ∙ h
 
 pub each_same : {T : Type 0} (F G : T → List LinkError) (xs : List T) → ((x : T) → F x ≡ G x) → each F xs ≡ each G xs
 each_same F G [] same = refl

@@ -103,10 +103,10 @@ among n [] d below k lt = omega (arith, lt)
 among n (x ∷ hs) d below zero lt = below.0
 among n (x ∷ hs) d below (suc k) lt = among n hs d below.1 k (omega (arith, lt))
 
-pub heads_fit : (f : Function) (at : ℕ) (heads : List ℕ) → at + (function_piece f).size ≤ 4294967296
-    → heads ≡ map (λ (x : Head). x.address) ((function_piece f).heads at) → All (λ h. h < 4294967296) heads
-heads_fit f at heads le e =
-    subst (All (λ h. h < 4294967296)) (sym e)
+pub heads_fit : (f : Function) (at : ℕ) (heads before : List ℕ) → at + (function_piece f).size ≤ 4294967296 → before ≡ []
+    → heads ≡ before ++ map (λ (x : Head). x.address) ((function_piece f).heads at) → All (λ h. h < 4294967296) heads
+heads_fit f at heads before le none e =
+    subst (All (λ h. h < 4294967296)) (sym (e ∙ ap (λ l. l ++ map (λ (x : Head). x.address) ((function_piece f).heads at)) none))
     (λ k d lt.
         let below = among (at + (function_piece f).size) ((function_piece f).heads at) d ((function_heads f).below at) k lt in
         omega (arith, le, below))

@@ -1,8 +1,9 @@
 -- The imports that no module exports, and the addresses that are given for them.
-use Rattle.std.proofs.Common.{◌≡◌, ◌∙◌, sym, ap, ap₂, subst, refl, ℕ, suc, ◌+◌, ◌<◌, ◌≤◌, arith, add-one, Bool, true, false, cond, not, ◌&&◌, ◌||◌, if◌then◌else◌, List, [], ◌∷◌, ◌++◌, map, filter, length, drop, get_or, bytes_eq, Option, None, Some}
+use Rattle.std.proofs.Common.{◌≡◌, ◌∙◌, sym, ap, ap₂, subst, refl, ℕ, suc, ◌+◌, ◌<◌, ◌≤◌, arith, add-one, Bool, true, false, cond, not, ◌&&◌, ◌||◌, if◌then◌else◌, List, [], ◌∷◌, ◌++◌, map, filter, length, drop, get_or, bytes_eq, Option, None, Some, is_some, Result, Ok, Err, IfOk, Bor}
 use Rattle.std.specs.Prelude.{find}
 use Rattle.std.proofs.lemmas.Slice.Eq.{bytes_eq-Decides}
 use Rattle.bed_lang.specs.declared.word.Name.{Name}
+use Rattle.bed_lang.specs.declared.module.Import.{Import}
 use Rattle.bed_lang.specs.declared.module.Function.{Function}
 use Rattle.bed_lang.specs.declared.module.Module.{Module}
 use Rattle.bed_names.specs.Tables.{number_of, position_of, IsIndex, item_at}
@@ -13,10 +14,13 @@ use Rattle.bed_link.specs.declared.error.LinkError.{LinkError}
 use Rattle.bed_link.specs.declared.error.LinkError.TheVariants.{Twice, Unresolved}
 use Rattle.bed_link.specs.Parts.{functions, imports, is_exported, function_claim}
 use Rattle.bed_link.specs.Faults.{each, fault_if}
-use Rattle.bed_link.specs.Linkable.{is_one_of, given_twice, missing, unused, repeated, twice_faults, unresolved_faults, differs_faults, length_faults, before_faults, module_names, function_names, exported_names, import_names, given_names, outside}
+use Rattle.bed_link.specs.Linkable.{is_one_of, with_given, given_twice, missing, unused, repeated, twice_faults, unresolved_faults, differs_faults, length_faults, before_faults, module_names, function_names, exported_names, import_names, given_names, outside}
 use Rattle.bed_link.specs.Resolved.{resolved}
-use Rattle.bed_link.proofs.FaultLemmas.{each_same}
-use Rattle.bed_link.proofs.LayoutLemmas.{functions_are, exports_are, imported_are}
+use Rattle.bed_link.specs.Seen.{Knows, address_or_none, outside_of}
+use Rattle.bed_link.specs.declared.parts.Part.{Part}
+use Rattle.bed_link.specs.declared.outside.Outside.{Outside}
+use Rattle.bed_link.proofs.FaultLemmas.{each_same, split}
+use Rattle.bed_link.proofs.LayoutLemmas.{functions_are, exports_are, exported_names_of, imported_are}
 
 -- ---- parts of an empty list
 
@@ -156,33 +160,49 @@ module _ (ms : List Module) (given : List (Name × ℕ)) (base : ℕ) (none : be
 
 -- ---- the address that is given for a name
 
-address_step : (b : Bool) (g : Name × ℕ) (o : Option (Name × ℕ)) (rest : ℕ) (a : ℕ)
-    → ((g : Name × ℕ) → o ≡ Some g → rest ≡ g.1) → (o ≡ None → rest ≡ 0)
-    → ((h : Name × ℕ) → cond b (Some g) o ≡ Some h → cond b g.1 rest ≡ h.1) × (cond b (Some g) o ≡ None → cond b g.1 rest ≡ 0)
-address_step true g o rest a some none = (λ h e. cc, λ e. cc)
-address_step false g o rest a some none = (some, none)
+address_step : (b : Bool) (g : Name × ℕ) (o : Option (Name × ℕ)) (rest : ℕ) → address_or_none o ≡ rest → address_or_none (cond b (Some g) o) ≡ cond b g.1 rest
+address_step true g o rest h = refl
+address_step false g o rest h = h
 
-address_found : (given : List (Name × ℕ)) (x : List ℕ)
-    → ((g : Name × ℕ) → find (λ g. bytes_eq g.0.bytes x) given ≡ Some g → address_of (map import_label given) x ≡ g.1)
-    × (find (λ g. bytes_eq g.0.bytes x) given ≡ None → address_of (map import_label given) x ≡ 0)
-address_found [] x = (λ g e. cc, λ e. refl)
+address_found : (given : List (Name × ℕ)) (x : List ℕ) → address_or_none (find (λ g. bytes_eq g.0.bytes x) given) ≡ address_of (map import_label given) x
+address_found [] x = refl
 address_found (g ∷ given) x =
-    let more = address_found given x in
-    address_step (bytes_eq g.0.bytes x) g (find (λ g. bytes_eq g.0.bytes x) given) (address_of (map import_label given) x) 0 more.0 more.1
+    address_step (bytes_eq g.0.bytes x) g (find (λ g. bytes_eq g.0.bytes x) given) (address_of (map import_label given) x) (address_found given x)
 
 pub address_by_table : (table : List (List ℕ × ℕ)) (given : List (Name × ℕ)) (x : List ℕ) → IsIndex table (map (λ g. g.0) given)
-    → ((g : Name × ℕ) → item_at given (number_of table x) ≡ Some g → address_of (map import_label given) x ≡ g.1)
-    × (item_at given (number_of table x) ≡ None → address_of (map import_label given) x ≡ 0)
-address_by_table table given x is =
-    let same : item_at given (number_of table x) ≡ find (λ g. bytes_eq g.0.bytes x) given =
-    ap (item_at given) (is x) ∙ item_at-position_of (λ g. g.0) given x in
-    let found = address_found given x in
-    (λ g e. found.0 g (sym same ∙ e), λ e. found.1 (sym same ∙ e))
+    → address_or_none (item_at given (number_of table x)) ≡ address_of (map import_label given) x
+address_by_table table given x is = ap address_or_none (ap (item_at given) (is x) ∙ item_at-position_of (λ g. g.0) given x) ∙ address_found given x
 
 -- ---- one more import, where the loop goes over them
 
-pub outside_step : (ds : List Defined) (seen next : List Name) (x : Name) (ns : List Name) (e s : Bool) (whole : List Name)
-    → exports ds x.bytes ≡ e → is_among seen x.bytes ≡ s → next ≡ cond (e || s) seen (seen ++ x ∷ [])
-    → outside_names ds seen (x ∷ ns) ≡ whole → outside_names ds next ns ≡ whole
-outside_step ds seen next x ns e s whole ee es en h =
-    ap (λ l. outside_names ds l ns) (en ∙ ap₂ (λ a b. cond (a || b) seen (seen ++ x ∷ [])) (sym ee) (sym es)) ∙ h
+pub outside_step : (ds : List Defined) (exported table : List (List ℕ × ℕ)) (seen next : List Name) (is : List (Part Import)) (i : ℕ) (p : Part Import) (whole : List Name)
+    → i < length is → p ≡ get_or is i p → ((x : List ℕ) → is_some (number_of exported x) ≡ exports ds x) → Knows table seen
+    → next ≡ cond (is_some (number_of exported p.item.now.name.bytes) || is_some (number_of table p.item.now.name.bytes)) seen (seen ++ p.item.now.name ∷ [])
+    → outside_names ds seen (map (λ (p : Part Import). p.item.now.name) (drop i is)) ≡ whole
+    → outside_names ds next (map (λ (p : Part Import). p.item.now.name) (drop (i + 1) is)) ≡ whole
+outside_step ds exported table seen next is i p whole lt at ke ks en h =
+    let x : Name = p.item.now.name in
+    ap (λ l. outside_names ds l (map (λ (p : Part Import). p.item.now.name) (drop (i + 1) is)))
+    (en ∙ ap₂ (λ a b. cond (a || b) seen (seen ++ x ∷ [])) (ke x.bytes) (ks x.bytes))
+    ∙ ap (λ l. outside_names ds seen (map (λ (p : Part Import). p.item.now.name) l)) (sym (split is i p lt at)) ∙ h
+
+-- ---- names with their addresses
+
+given_mapped : (given : List (Name × ℕ)) (ns : List (Bor Name)) → map (λ (n : Bor Name). with_given given n.now) ns ≡ map (with_given given) (map (λ (n : Bor Name). n.now) ns)
+given_mapped given [] = refl
+given_mapped given (n ∷ ns) = ap (λ l. with_given given n.now ∷ l) (given_mapped given ns)
+
+pub outside_if_ok : {V E : Type 0} (items_of : V → List Outside) (r : Result V E) (exported : List (List ℕ × ℕ)) (fs : List (Part Function))
+    (is : List Name) (given : List (Name × ℕ)) (ns : List (Bor Name))
+    → Knows exported (map (λ (p : Part Function). p.item.now.name) (filter (λ (p : Part Function). p.item.now.exported) fs))
+    → ((ds : List Defined) → ((x : List ℕ) → is_some (number_of exported x) ≡ exports ds x) → map (λ (n : Bor Name). n.now) ns ≡ outside_names ds [] is)
+    → IfOk r (λ v. map outside_of (items_of v) ≡ map (λ (n : Bor Name). with_given given n.now) ns)
+    → IfOk r (λ v. (ds : List Defined) → map (λ (d : Defined). d.function) ds ≡ map (λ (p : Part Function). p.item.now) fs
+        → map outside_of (items_of v) ≡ map (with_given given) (outside_names ds [] is))
+outside_if_ok items_of (Ok v) exported fs is given ns ke en h = λ ds e.
+    let same : (x : List ℕ) → is_some (number_of exported x) ≡ exports ds x =
+    λ x.
+        ke x ∙ ap (λ l. is_among l x) (sym (exported_names_of (λ (p : Part Function). p.item.now) fs))
+        ∙ ap (λ l. is_among (map (λ (f : Function). f.name) (filter (λ (f : Function). f.exported) l)) x) (sym e) ∙ sym (exports_are ds x) in
+    h ∙ given_mapped given ns ∙ ap (map (with_given given)) (en ds same)
+outside_if_ok items_of (Err x) exported fs is given ns ke en h = tt

@@ -11,7 +11,7 @@ use Rattle.bed_link.specs.declared.error.LinkError.{LinkError}
 use Rattle.bed_link.specs.declared.error.LinkError.TheVariants.{Twice, Address}
 use Rattle.bed_link.specs.Parts.{functions}
 use Rattle.bed_link.specs.Faults.{each, each_after, fault_if}
-use Rattle.bed_link.specs.Linkable.{is_one_of, repeated, function_names, module_names, exported_names, import_names, given_names, twice_faults, unresolved_faults, differs_faults, length_faults, address_faults, is_too_long, before_faults, outside, lies_in, is_shared}
+use Rattle.bed_link.specs.Linkable.{is_one_of, repeated, function_names, module_names, exported_names, import_names, given_names, twice_faults, unresolved_faults, differs_faults, length_faults, address_fault, address_faults, is_too_long, before_faults, outside, lies_in, is_shared}
 use Rattle.bed_link.specs.Laws.{FunctionsStand, CodeFits, ImportsAreGiven, ImportsLieOutside}
 use Rattle.bed_link.proofs.TableLemmas.{among_more}
 use Rattle.bed_link.proofs.LayoutLemmas.{functions_are}
@@ -131,6 +131,6 @@ pub imports_lie_outside : ImportsLieOutside
 imports_lie_outside modules given base linkable i is =
     let none = right_none (before_faults modules given base) _ linkable in
     let mine =
-    each_none (λ o. fault_if (lies_in base (code_length modules) o.1 || is_shared (outside modules given) o.1) (Address o.0)) (outside modules given) i none is in
+    each_none (address_fault base (code_length modules) (outside modules given)) (outside modules given) i none is in
     apart base (code_length modules) i.1 (nat_le base i.1) (nat_lt i.1 (base + code_length modules)) refl refl
     (or_left (lies_in base (code_length modules) i.1) _ (no_fault _ _ mine))

@@ -1,5 +1,5 @@
 -- What tables know.
-use Rattle.std.proofs.Common.{◌≡◌, ◌∙◌, sym, ap, subst, refl, ℕ, suc, zero, ◌+◌, ◌<◌, add-one, Bool, true, false, cond, not, ◌||◌, List, [], ◌∷◌, ◌++◌, map, length, take, drop, get_or, Option, None, Some, is_some, is_none, bytes_eq, arith}
+use Rattle.std.proofs.Common.{◌≡◌, ◌∙◌, sym, ap, subst, refl, ℕ, suc, zero, ◌+◌, ◌<◌, add-one, Bool, true, false, cond, not, ◌||◌, List, [], ◌∷◌, ◌++◌, map, length, take, drop, get_or, Option, None, Some, is_some, is_none, bytes_eq, arith, Result, Ok, Err, IfOk}
 use Rattle.std.specs.Prelude.{find, option_map, slice_get}
 use Rattle.std.specs.Bool.{OnTrue, OnFalse}
 use Rattle.std.proofs.lemmas.List.{take_more, take-map, get_or-map, length-map}
@@ -93,3 +93,7 @@ first_by_table name_of items i table x is =
 pub name_is : {T : Type 0} (name_of : T → Name) (items : List T) (i : ℕ) (item : T) (x : Name) → i < length items → item ≡ get_or items i item
     → x ≡ name_of item → (i < length (map name_of items)) × (x ≡ get_or (map name_of items) i x)
 name_is name_of items i item x lt is e = (rw length-map lt, e ∙ ap name_of is ∙ sym (get_or-map name_of items i item x lt))
+
+pub knows_if_ok : {E : Type 0} (r : Result (List (List ℕ × ℕ)) E) (ns ms : List Name) → ns ≡ ms → IfOk r (λ t. IsIndex t ns) → IfOk r (λ t. Knows t ms)
+knows_if_ok (Ok t) ns ms e is = subst (Knows t) e (knows_index t ns is)
+knows_if_ok (Err x) ns ms e is = tt

@@ -104,9 +104,11 @@ lies_in base length address = nat_le base address && nat_lt address (base + leng
 abbrev pub is_shared : List (Name × ℕ) → ℕ → Bool
 is_shared outside address = nat_lt 1 (count_by (λ o. nat_eq o.1 address) outside)
 
+abbrev pub address_fault : ℕ → ℕ → List (Name × ℕ) → Name × ℕ → List LinkError
+address_fault base length outside o = fault_if (lies_in base length o.1 || is_shared outside o.1) (Address o.0)
+
 abbrev pub address_faults : ℕ → ℕ → List (Name × ℕ) → List LinkError
-address_faults base length outside =
-    each (λ o. fault_if (lies_in base length o.1 || is_shared outside o.1) (Address o.0)) outside
+address_faults base length outside = each (address_fault base length outside) outside
 
 -- ---- all
 

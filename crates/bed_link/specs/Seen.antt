@@ -1,5 +1,5 @@
 -- What the code's own values stand for.
-use Rattle.std.specs.Prelude.{◌≡◌, ℕ, ◌+◌, List, [], ◌∷◌, ◌++◌, map, is_some, Bool}
+use Rattle.std.specs.Prelude.{◌≡◌, ℕ, ◌+◌, List, [], ◌∷◌, ◌++◌, map, is_some, Bool, Option, None, Some}
 use Rattle.bed_lang.specs.declared.word.Name.{Name}
 use Rattle.bed_lang.specs.declared.module.Function.{Function}
 use Rattle.bed_lang.specs.declared.module.Module.{Module}
@@ -23,6 +23,11 @@ claim_of c = record { name = c.name.now; signature = c.signature.now; «module»
 
 abbrev pub outside_of : Outside → Name × ℕ
 outside_of o = (o.name.now, o.address)
+
+-- the address of a pair; 0 where there is none
+abbrev pub address_or_none : Option (Name × ℕ) → ℕ
+address_or_none None = 0
+address_or_none (Some g) = g.1
 
 -- a table knows the names of a list, and no other
 abbrev pub Knows : List (List ℕ × ℕ) → List Name → Type 0

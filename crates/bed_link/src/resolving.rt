@@ -20,7 +20,6 @@ use bed_names::Scoped;
 use std::alloc::Global;
 
 // The length of the code, where no rule before the last is broken.
-#[tactic(auto, using(crate::proofs::FaultLemmas::append_none, crate::proofs::FaultLemmas::refusal_first, crate::proofs::FaultLemmas::refusal_later))]
 fn judged(
     alloc: Global,
     modules: &[Scoped],
@@ -44,7 +43,6 @@ fn judged(
 }
 
 // The layout, where no rule is broken.
-#[tactic(auto, using(crate::proofs::FaultLemmas::append_none, crate::proofs::FaultLemmas::refusal_first, crate::proofs::FaultLemmas::refusal_later))]
 fn placed(
     alloc: Global,
     modules: &[Scoped],
@@ -63,7 +61,8 @@ fn placed(
     let length = judged(alloc, modules, functions, imports, given, base)?;
     let outside = outside_imports(alloc, functions, imports, given)?;
     all_apart(alloc, base, length, outside.as_slice())?;
-    Ok(layout_of(alloc, base, length, functions, outside.as_slice())?)
+    let linked = layout_of(alloc, base, length, functions, outside.as_slice())?;
+    Ok(linked)
 }
 
 /// What stands where in the code of modules from a base, with the addresses that are given for imports, where they can be linked.
