@@ -8,15 +8,16 @@ use Rattle.bed_names.specs.InScope.{InScope}
 use Rattle.bed_names.specs.Tables.{IsIndex}
 use Rattle.bed_table.specs.Layout.{Defined, all_defined, sum_of_sizes, code_length, outside_names, outside_imports, placed, loops}
 use Rattle.bed_link.specs.declared.error.LinkError.{LinkError}
-use Rattle.bed_link.specs.declared.error.LinkError.TheVariants.{Unresolved}
+use Rattle.bed_link.specs.declared.error.LinkError.TheVariants.{Twice, Unresolved}
 use Rattle.bed_link.specs.declared.parts.Part.{Part}
 use Rattle.bed_link.specs.declared.linked.Linked.{Linked}
 use Rattle.bed_link.specs.Parts.{functions, imports, is_exported, function_claim}
 use Rattle.bed_link.specs.Faults.{refusal, fault_if}
-use Rattle.bed_link.specs.Linkable.{is_one_of, missing, unused, module_names, function_names, exported_names, import_names, given_names, twice_faults, unresolved_faults, differs_faults, length_faults, address_faults, before_faults, faults, outside, with_given}
+use Rattle.bed_link.specs.Linkable.{is_one_of, repeated, given_twice, missing, unused, module_names, function_names, exported_names, import_names, given_names, twice_faults, unresolved_faults, differs_faults, length_faults, address_faults, before_faults, faults, outside, with_given}
 use Rattle.bed_link.specs.Resolved.{function_entry, loop_entry, resolved}
 use Rattle.bed_link.specs.Seen.{Knows, knows, module_of, pair_of, entries_from, loops_from}
 use Rattle.bed_link.proofs.FaultLemmas.{append_none, refusal_first, refusal_later, each_same}
+use Rattle.bed_link.proofs.TableLemmas.{knows_index}
 use Rattle.bed_link.proofs.LayoutLemmas.{functions_are, total_is, entries_are, loops_are, imported_are, exported_named}
 use Rattle.bed_link.proofs.OutsideLemmas.{imports_given}
 
@@ -32,6 +33,60 @@ pub unused_is : (ti : List (List ℕ × ℕ)) (is gs : List Name) → Knows ti i
 unused_is ti is gs ki =
     each_same (λ x. fault_if (not (knows ti x)) (Unresolved x)) (λ x. fault_if (not (is_one_of is x)) (Unresolved x)) gs
     (λ x. ap (λ a. fault_if (not a) (Unresolved x)) (ki x.bytes))
+
+module _ (fs : List (Part Function)) (is : List (Part Import)) (given : List (Name × ℕ)) (te tg : List (List ℕ × ℕ)) where
+  abbrev es : List Name
+  es = map (λ (p : Part Function). p.item.now.name) (filter (λ (p : Part Function). p.item.now.exported) fs)
+
+  abbrev ns : List Name
+  ns = map (λ (p : Part Import). p.item.now.name) is
+
+  abbrev gs : List Name
+  gs = map (λ (g : Name × ℕ). g.0) given
+
+  module _ (ke : Knows te es) (kg : IsIndex tg gs) where
+    found_is : missing (knows te) (knows tg) ns ≡ missing (is_one_of es) (is_one_of gs) ns
+    found_is = missing_is te tg es gs ns ke (knows_index tg gs kg)
+
+    pub found_refused : (e : LinkError) → refusal (missing (knows te) (knows tg) ns) ≡ Some e → refusal (unresolved_faults es ns gs) ≡ Some e
+    found_refused e h = refusal_first (missing (is_one_of es) (is_one_of gs) ns) (unused (is_one_of ns) gs) e (ap refusal (sym found_is) ∙ h)
+
+    module _ (ti : List (List ℕ × ℕ)) (ki : IsIndex ti ns) (none : missing (knows te) (knows tg) ns ≡ []) where
+      pub used_refused : (e : LinkError) → refusal (unused (knows ti) gs) ≡ Some e → refusal (unresolved_faults es ns gs) ≡ Some e
+      used_refused e h =
+          refusal_later (missing (is_one_of es) (is_one_of gs) ns) (unused (is_one_of ns) gs) e (sym found_is ∙ none)
+          (ap refusal (sym (unused_is ti ns gs (knows_index ti ns ki))) ∙ h)
+
+      pub used_accepted : unused (knows ti) gs ≡ [] → unresolved_faults es ns gs ≡ []
+      used_accepted h =
+          append_none (missing (is_one_of es) (is_one_of gs) ns) (unused (is_one_of ns) gs) (sym found_is ∙ none)
+          (sym (unused_is ti ns gs (knows_index ti ns ki)) ∙ h)
+
+-- ---- names that are given and a function's
+
+pub given_is : (tg : List (List ℕ × ℕ)) (gs ns : List Name) → IsIndex tg gs → given_twice (knows tg) ns ≡ given_twice (is_one_of gs) ns
+given_is tg gs ns kg =
+    each_same (λ x. fault_if (knows tg x) (Twice x)) (λ x. fault_if (is_one_of gs x) (Twice x)) ns
+    (λ x. ap (λ a. fault_if a (Twice x)) (knows_index tg gs kg x.bytes))
+
+module _ (ms fs gs : List Name) (tg : List (List ℕ × ℕ)) (once : repeated ms ≡ []) where
+  pub second_refused : (e : LinkError) → refusal (repeated fs) ≡ Some e → refusal (twice_faults ms fs gs) ≡ Some e
+  second_refused e h =
+      refusal_later (repeated ms) (repeated fs ++ (repeated gs ++ given_twice (is_one_of gs) fs)) e once
+      (refusal_first (repeated fs) (repeated gs ++ given_twice (is_one_of gs) fs) e h)
+
+  module _ (alone : repeated fs ≡ []) (apart : repeated gs ≡ []) (kg : IsIndex tg gs) where
+    pub given_refused : (e : LinkError) → refusal (given_twice (knows tg) fs) ≡ Some e → refusal (twice_faults ms fs gs) ≡ Some e
+    given_refused e h =
+        refusal_later (repeated ms) (repeated fs ++ (repeated gs ++ given_twice (is_one_of gs) fs)) e once
+        (refusal_later (repeated fs) (repeated gs ++ given_twice (is_one_of gs) fs) e alone
+        (refusal_later (repeated gs) (given_twice (is_one_of gs) fs) e apart (ap refusal (sym (given_is tg gs fs kg)) ∙ h)))
+
+    pub given_accepted : given_twice (knows tg) fs ≡ [] → twice_faults ms fs gs ≡ []
+    given_accepted h =
+        append_none (repeated ms) (repeated fs ++ (repeated gs ++ given_twice (is_one_of gs) fs)) once
+        (append_none (repeated fs) (repeated gs ++ given_twice (is_one_of gs) fs) alone
+        (append_none (repeated gs) (given_twice (is_one_of gs) fs) apart (sym (given_is tg gs fs kg) ∙ h)))
 
 -- ---- names and lengths of what was listed
 

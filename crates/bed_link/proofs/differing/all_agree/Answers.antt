@@ -14,3 +14,12 @@ loop-number-preserved g c =
           c.name-name.ensures g.T.Declared.number_of g.T.Declared.same c.loop-number.table c.as_slice-bytes.result.now c.get-first.result _ c.loop-number.invariant.table
           c.as_slice-bytes.ensures c.get-first.ensures c.in_ok-agrees.ensures.accepted c.loop-number.invariant.faults;
     }
+
+pub returns-in_err-agrees-clause-refused : goal.returns-in_err-agrees-clause-refused
+returns-in_err-agrees-clause-refused g c =
+    let name = c.name-name.result.now in
+    let item = c.index-items-number in
+    λ no.
+    agree_refused g.T.Declared.name_of c.args.items.now c.loop-number.number item.result name c.loop-number-test.true item.is c.name-name.ensures
+    g.T.Declared.number_of g.T.Declared.same c.loop-number.table c.as_slice-bytes.result.now c.get-first.result _ _ c.loop-number.invariant.table
+    c.as_slice-bytes.ensures c.get-first.ensures (c.in_err-agrees.ensures.refused no) c.loop-number.invariant.faults
