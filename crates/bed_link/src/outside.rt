@@ -56,10 +56,10 @@ fn push_new<'a>(
         return Ok(());
     }
     let is_new = seen.add(bytes, 0)?;
-    if !is_new {
-        return Ok(());
+    if is_new {
+        out.push(name)?;
     }
-    out.push(name)
+    Ok(())
 }
 
 // The names of imports that aren't exported functions, each at its first place.
