@@ -27,17 +27,17 @@ module _ {T : Type 0} (name_of : T → Name) (items : List T) (i : ℕ) (item : 
   pub distinct_step : (table : List (List ℕ × ℕ)) (bytes : List ℕ) (new : Bool) (whole : List LinkError) → IsIndex table (take i names)
       → bytes ≡ x.bytes → new ≡ is_none (number_of table bytes) → new ≡ true
       → each_after repeats_at (take i names) (drop i names) ≡ whole → each_after repeats_at (take (i + 1) names) (drop (i + 1) names) ≡ whole
-  distinct_step table bytes new whole index eb known yes h =
+  distinct_step table bytes new whole index eb known fresh h =
       let at = name_is name_of items i item x lt is e in
-      let none : is_among (take i names) x.bytes ≡ false = among_before table bytes new index eb known ∙ ap not yes in
+      let none : is_among (take i names) x.bytes ≡ false = among_before table bytes new index eb known ∙ ap not fresh in
       after_step repeats_at names i x whole at.0 at.1 (ap (λ b. fault_if b (Twice x)) none) h
 
   pub distinct_refused : (table : List (List ℕ × ℕ)) (bytes : List ℕ) (new : Bool) (whole : List LinkError) (f : LinkError)
       → IsIndex table (take i names) → bytes ≡ x.bytes → new ≡ is_none (number_of table bytes) → new ≡ false → f ≡ Twice x
       → each_after repeats_at (take i names) (drop i names) ≡ whole → refusal whole ≡ Some f
-  distinct_refused table bytes new whole f index eb known no ef h =
+  distinct_refused table bytes new whole f index eb known stale ef h =
       let at = name_is name_of items i item x lt is e in
-      let there : is_among (take i names) x.bytes ≡ true = among_before table bytes new index eb known ∙ ap not no in
+      let there : is_among (take i names) x.bytes ≡ true = among_before table bytes new index eb known ∙ ap not stale in
       after_refused repeats_at names i x whole f at.0 at.1 (ap (λ b. refusal (fault_if b (Twice x))) there ∙ ap Some (sym ef)) h
 
   module _ (module_of : T → ℕ) (same : T → T → Bool) where

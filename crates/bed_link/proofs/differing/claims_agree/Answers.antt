@@ -9,13 +9,13 @@ use Rattle.bed_link.proofs.differing.claims_agree.Goals as goal
 pub returns-clause-accepted : goal.returns-clause-accepted
 returns-clause-accepted c =
     subst (λ l. OnOk c.all_agree.result (l ≡ []))
-    (ap (differing _ _ _) c.as_slice.ensures
+    (ap (differing _ _ _) c.as_slice.ensures.value
     ∙ sym (differing_mapped claim_of (λ c. c.name) (λ c. c.«module») same_claim c.in_ok-claims.claims.items) ∙ ap claim_faults c.in_ok-claims.ensures)
     c.all_agree.ensures.accepted
 
 pub returns-clause-refused : goal.returns-clause-refused
 returns-clause-refused c =
     subst (λ l. IfErr c.all_agree.result (λ e. e ≢ Memory → refusal l ≡ Some e))
-    (ap (differing _ _ _) c.as_slice.ensures
+    (ap (differing _ _ _) c.as_slice.ensures.value
     ∙ sym (differing_mapped claim_of (λ c. c.name) (λ c. c.«module») same_claim c.in_ok-claims.claims.items) ∙ ap claim_faults c.in_ok-claims.ensures)
     c.all_agree.ensures.refused

@@ -8,14 +8,14 @@ pub returns-in_err-all_apart-clause-refused : goal.returns-in_err-all_apart-clau
 returns-in_err-all_apart-clause-refused c = λ no.
     placed_refused c.args.modules.now c.args.functions.now c.args.imports.now c.args.given.now c.args.base c.requires.functions c.requires.imports _ (map outside_of c.as_slice.result.now)
     c.in_ok-length.length c.in_ok-length.ensures.accepted c.in_ok-length.ensures.length
-    (ap (map outside_of) c.as_slice.ensures ∙ c.in_ok-outside.ensures (all_defined (map module_of c.args.modules.now)) (defined_seen c.args.modules.now c.args.functions.now c.args.imports.now c.args.given.now c.args.base c.requires.functions c.requires.imports) ∙ outside_seen c.args.modules.now c.args.functions.now c.args.imports.now c.args.given.now c.args.base c.requires.functions c.requires.imports)
+    (ap (map outside_of) c.as_slice.ensures.value ∙ c.in_ok-outside.ensures (all_defined (map module_of c.args.modules.now)) (defined_seen c.args.modules.now c.args.functions.now c.args.imports.now c.args.given.now c.args.base c.requires.functions c.requires.imports) ∙ outside_seen c.args.modules.now c.args.functions.now c.args.imports.now c.args.given.now c.args.base c.requires.functions c.requires.imports)
     (c.in_err-all_apart.ensures.refused no)
 
 pub returns-clause-linkable : goal.returns-clause-linkable
 returns-clause-linkable c =
     placed_none c.args.modules.now c.args.functions.now c.args.imports.now c.args.given.now c.args.base c.requires.functions c.requires.imports (map outside_of c.as_slice.result.now)
     c.in_ok-length.length c.in_ok-length.ensures.accepted c.in_ok-length.ensures.length
-    (ap (map outside_of) c.as_slice.ensures ∙ c.in_ok-outside.ensures (all_defined (map module_of c.args.modules.now)) (defined_seen c.args.modules.now c.args.functions.now c.args.imports.now c.args.given.now c.args.base c.requires.functions c.requires.imports) ∙ outside_seen c.args.modules.now c.args.functions.now c.args.imports.now c.args.given.now c.args.base c.requires.functions c.requires.imports)
+    (ap (map outside_of) c.as_slice.ensures.value ∙ c.in_ok-outside.ensures (all_defined (map module_of c.args.modules.now)) (defined_seen c.args.modules.now c.args.functions.now c.args.imports.now c.args.given.now c.args.base c.requires.functions c.requires.imports) ∙ outside_seen c.args.modules.now c.args.functions.now c.args.imports.now c.args.given.now c.args.base c.requires.functions c.requires.imports)
     c.in_ok-all_apart.ensures.accepted
 
 pub returns-clause-linked : goal.returns-clause-linked
@@ -23,4 +23,4 @@ returns-clause-linked c =
     linked_is c.args.modules.now c.args.functions.now c.args.imports.now c.args.given.now c.args.base c.requires.functions c.requires.imports _ c.in_ok-length.ensures.accepted
     c.in_ok-linked.ensures.base (c.in_ok-linked.ensures.length ∙ c.in_ok-length.ensures.length) c.in_ok-linked.ensures.functions
     c.in_ok-linked.ensures.loops
-    (c.in_ok-linked.ensures.imports ∙ (ap (map outside_of) c.as_slice-2.ensures ∙ c.in_ok-outside.ensures (all_defined (map module_of c.args.modules.now)) (defined_seen c.args.modules.now c.args.functions.now c.args.imports.now c.args.given.now c.args.base c.requires.functions c.requires.imports) ∙ outside_seen c.args.modules.now c.args.functions.now c.args.imports.now c.args.given.now c.args.base c.requires.functions c.requires.imports))
+    (c.in_ok-linked.ensures.imports ∙ (ap (map outside_of) c.as_slice-2.ensures.value ∙ c.in_ok-outside.ensures (all_defined (map module_of c.args.modules.now)) (defined_seen c.args.modules.now c.args.functions.now c.args.imports.now c.args.given.now c.args.base c.requires.functions c.requires.imports) ∙ outside_seen c.args.modules.now c.args.functions.now c.args.imports.now c.args.given.now c.args.base c.requires.functions c.requires.imports))

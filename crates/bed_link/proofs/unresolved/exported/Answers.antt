@@ -6,4 +6,4 @@ use Rattle.bed_link.proofs.unresolved.exported.Goals as goal
 
 pub returns : goal.returns
 returns c =
-    knows_if_ok c.names.result _ _ (ap (map (λ (p : Part Function). p.item.now.name)) (c.as_slice.ensures ∙ c.in_ok-exported.ensures)) c.names.ensures
+    knows_if_ok c.names.result _ _ (ap (map (λ (p : Part Function). p.item.now.name)) (c.as_slice.ensures.value ∙ c.in_ok-exported.ensures)) c.names.ensures
