@@ -1,6 +1,8 @@
 -- The imports that no module exports, and the addresses that are given for them.
 use Rattle.std.proofs.Common.{◌≡◌, ◌∙◌, sym, ap, ap₂, subst, refl, ℕ, suc, ◌+◌, ◌<◌, ◌≤◌, arith, add-one, Bool, true, false, cond, not, ◌&&◌, ◌||◌, if◌then◌else◌, List, [], ◌∷◌, ◌++◌, map, filter, length, drop, get_or, bytes_eq, Option, None, Some, is_some, Result, Ok, Err, IfOk, Bor}
 use Rattle.std.specs.Prelude.{find}
+use Rattle.std.specs.Bool.{OnTrue}
+use Rattle.std.proofs.lemmas.List.{map-append}
 use Rattle.std.proofs.lemmas.Slice.Eq.{bytes_eq-Decides}
 use Rattle.bed_lang.specs.declared.word.Name.{Name}
 use Rattle.bed_lang.specs.declared.module.Import.{Import}
@@ -172,6 +174,43 @@ address_found (g ∷ given) x =
 pub address_by_table : (table : List (List ℕ × ℕ)) (given : List (Name × ℕ)) (x : List ℕ) → IsIndex table (map (λ g. g.0) given)
     → address_or_none (item_at given (number_of table x)) ≡ address_of (map import_label given) x
 address_by_table table given x is = ap address_or_none (ap (item_at given) (is x) ∙ item_at-position_of (λ g. g.0) given x) ∙ address_found given x
+
+-- ---- a name more
+
+known_one : (b : Bool) (n : ℕ) → is_some (cond b (Some n) None) ≡ b
+known_one true n = refl
+known_one false n = refl
+
+known_more : (b c : Bool) (n : ℕ) (p q : Option ℕ) → is_some p ≡ (is_some q || c) → is_some (cond b (Some n) p) ≡ (is_some (cond b (Some n) q) || c)
+known_more true c n p q e = refl
+known_more false c n p q e = e
+
+known_push : (t : List (List ℕ × ℕ)) (x : List ℕ) (n : ℕ) (name : List ℕ) → is_some (number_of (t ++ (x, n) ∷ []) name) ≡ (is_some (number_of t name) || bytes_eq name x)
+known_push [] x n name = known_one (bytes_eq name x) n
+known_push (e ∷ t) x n name = known_more (bytes_eq name e.0) (bytes_eq name x) e.1 (number_of (t ++ (x, n) ∷ []) name) (number_of t name) (known_push t x n name)
+
+among_one : (b : Bool) → (b || false) ≡ b
+among_one true = refl
+among_one false = refl
+
+among_more : (a b c : Bool) → (a || (b || c)) ≡ ((a || b) || c)
+among_more true b c = refl
+among_more false b c = refl
+
+among_push : (ns : List Name) (x : Name) (name : List ℕ) → is_among (ns ++ x ∷ []) name ≡ (is_among ns name || bytes_eq x.bytes name)
+among_push [] x name = among_one (bytes_eq x.bytes name)
+among_push (y ∷ ns) x name = ap (λ b. bytes_eq y.bytes name || b) (among_push ns x name) ∙ among_more (bytes_eq y.bytes name) (is_among ns name) (bytes_eq x.bytes name)
+
+-- a table and a list that get the same new name
+pub knows_new : (table next : List (List ℕ × ℕ)) (outs news : List (Bor Name)) (x : Bor Name) (bytes : List ℕ) (new : Bool) → bytes ≡ x.now.bytes
+    → Knows table (map (λ (n : Bor Name). n.now) outs) → new ≡ true → OnTrue new (next ≡ table ++ (bytes, 0) ∷ []) → news ≡ outs ++ x ∷ []
+    → Knows next (map (λ (n : Bor Name). n.now) news)
+knows_new table next outs news x bytes false e knows is added pushed = absurd (cc)
+knows_new table next outs news x bytes true e knows is added pushed = λ name.
+    ap (λ t. is_some (number_of t name)) added ∙ known_push table bytes 0 name
+    ∙ ap₂ (λ a b. a || b) (knows name) (ap (bytes_eq name) e ∙ bytes_eq_turned name x.now.bytes)
+    ∙ sym (among_push (map (λ (n : Bor Name). n.now) outs) x.now name)
+    ∙ ap (λ ns. is_among ns name) (sym (ap (map (λ (n : Bor Name). n.now)) pushed ∙ map-append (λ (n : Bor Name). n.now) outs (x ∷ [])))
 
 -- ---- one more import, where the loop goes over them
 
