@@ -1,5 +1,5 @@
 -- Names that go into a table one by one, and items that are held against the first of their name.
-use Rattle.std.proofs.Common.{◌≡◌, ◌∙◌, sym, ap, ℕ, ◌+◌, ◌<◌, Bool, true, false, not, List, [], ◌∷◌, ◌++◌, map, length, take, drop, get_or, Option, Some, is_some, is_none, bytes_eq}
+use Rattle.std.proofs.Common.{◌≡◌, ◌∙◌, sym, ap, ℕ, ◌+◌, ◌<◌, Bool, true, false, not, List, [], map, length, take, drop, get_or, Option, Some, is_some, is_none, bytes_eq}
 use Rattle.std.specs.Prelude.{find}
 use Rattle.bed_lang.specs.declared.word.Name.{Name}
 use Rattle.bed_names.specs.Tables.{number_of, IsIndex, item_at}

@@ -1,11 +1,11 @@
 -- Lists of faults, us loops go over the items of a list.
-use Rattle.std.proofs.Common.{◌≡◌, ◌∙◌, sym, ap, refl, ℕ, suc, ◌+◌, ◌<◌, ◌≤◌, add-one, Bool, true, false, cond, not, List, [], ◌∷◌, ◌++◌, map, length, take, drop, get_or, Option, None, Some, drop-cons, drop_of_length-le, append_assoc, append-nil, bytes_eq, filter, Result, Ok, Err, OnOk, IfErr, ◌≢◌}
-use Rattle.std.specs.Prelude.{find, option_map}
+use Rattle.std.proofs.Common.{◌≡◌, ◌∙◌, sym, ap, refl, ℕ, suc, ◌+◌, ◌<◌, ◌≤◌, add-one, Bool, true, false, cond, List, [], ◌∷◌, ◌++◌, map, length, take, drop, get_or, Option, None, Some, drop-cons, drop_of_length-le, append-nil, bytes_eq, filter, Result, Ok, Err, OnOk, IfErr, ◌≢◌}
+use Rattle.std.specs.Prelude.{option_map}
 use Rattle.std.proofs.lemmas.List.{take_more, map-append}
 use Rattle.bed_lang.specs.declared.word.Name.{Name}
 use Rattle.bed_link.specs.declared.error.LinkError.{LinkError}
 use Rattle.bed_link.specs.declared.error.LinkError.TheVariants.{Memory}
-use Rattle.bed_link.specs.Faults.{refusal, fault_if, each, each_after, differs_from, first_named, differing}
+use Rattle.bed_link.specs.Faults.{refusal, each, each_after, differs_from, first_named, differing}
 
 -- ---- one list after another
 

@@ -5,7 +5,6 @@ use Rattle.bed_lang.specs.declared.logic.Assertion.{Assertion}
 use Rattle.bed_lang.specs.declared.module.Test.{Test}
 use Rattle.bed_lang.specs.declared.module.Operand.TheVariants.{Local}
 use Rattle.bed_lang.specs.declared.module.Function.{Function}
-use Rattle.bed_lang.specs.declared.statement.Stmt.{Stmt}
 use Rattle.bed_lang.specs.declared.statement.StmtKind.{StmtKind-F}
 use Rattle.bed_table.specs.Pieces.{Piece, Head, nothing, sequence, size_of, heads_of}
 use Rattle.bed_table.specs.CodeTable.{entry, assignment, load, test_size, jump_size, choice, loop}
@@ -108,5 +107,5 @@ pub heads_fit : (f : Function) (at : ℕ) (heads before : List ℕ) → at + (fu
 heads_fit f at heads before le none e =
     subst (All (λ h. h < 4294967296)) (sym (e ∙ ap (λ l. l ++ map (λ (x : Head). x.address) ((function_piece f).heads at)) none))
     (λ k d lt.
-        let below = among (at + (function_piece f).size) ((function_piece f).heads at) d ((function_heads f).below at) k lt in
-        omega (arith, le, below))
+    let below = among (at + (function_piece f).size) ((function_piece f).heads at) d ((function_heads f).below at) k lt in
+    omega (arith, le, below))

@@ -1,5 +1,5 @@
 -- The imports that no module exports, and the addresses that are given for them.
-use Rattle.std.proofs.Common.{◌≡◌, ◌∙◌, sym, ap, ap₂, subst, refl, ℕ, suc, ◌+◌, ◌<◌, ◌≤◌, arith, add-one, Bool, true, false, cond, not, ◌&&◌, ◌||◌, if◌then◌else◌, List, [], ◌∷◌, ◌++◌, map, filter, length, drop, get_or, bytes_eq, Option, None, Some, is_some, Result, Ok, Err, IfOk, Bor}
+use Rattle.std.proofs.Common.{◌≡◌, ◌∙◌, sym, ap, ap₂, refl, ℕ, ◌+◌, ◌<◌, Bool, true, false, cond, not, ◌||◌, if◌then◌else◌, List, [], ◌∷◌, ◌++◌, map, filter, length, drop, get_or, bytes_eq, Option, None, Some, is_some, Result, Ok, Err, IfOk, Bor}
 use Rattle.std.specs.Prelude.{find}
 use Rattle.std.specs.Bool.{OnTrue}
 use Rattle.std.proofs.lemmas.List.{map-append}
@@ -8,14 +8,14 @@ use Rattle.bed_lang.specs.declared.word.Name.{Name}
 use Rattle.bed_lang.specs.declared.module.Import.{Import}
 use Rattle.bed_lang.specs.declared.module.Function.{Function}
 use Rattle.bed_lang.specs.declared.module.Module.{Module}
-use Rattle.bed_names.specs.Tables.{number_of, position_of, IsIndex, item_at}
+use Rattle.bed_names.specs.Tables.{number_of, IsIndex, item_at}
 use Rattle.bed_names.proofs.TableLaws.{item_at-position_of, bytes_eq_turned}
 use Rattle.bed_table.specs.Code.{function_piece}
-use Rattle.bed_table.specs.Layout.{Defined, all_defined, placed_from, placed, Label, address_of, function_label, import_label, label_address, exports, is_among, outside_names, outside_imports, imported, code_length}
+use Rattle.bed_table.specs.Layout.{Defined, all_defined, placed_from, Label, address_of, function_label, import_label, label_address, exports, is_among, outside_names, outside_imports, imported, code_length}
 use Rattle.bed_link.specs.declared.error.LinkError.{LinkError}
 use Rattle.bed_link.specs.declared.error.LinkError.TheVariants.{Twice, Unresolved}
-use Rattle.bed_link.specs.Parts.{functions, imports, is_exported, function_claim}
-use Rattle.bed_link.specs.Faults.{each, fault_if}
+use Rattle.bed_link.specs.Parts.{functions, is_exported, function_claim}
+use Rattle.bed_link.specs.Faults.{fault_if}
 use Rattle.bed_link.specs.Linkable.{is_one_of, with_given, given_twice, missing, unused, repeated, twice_faults, unresolved_faults, differs_faults, length_faults, before_faults, module_names, function_names, exported_names, import_names, given_names, outside}
 use Rattle.bed_link.specs.Resolved.{resolved}
 use Rattle.bed_link.specs.Seen.{Knows, address_or_none, outside_of}
@@ -237,11 +237,11 @@ pub outside_if_ok : {V E : Type 0} (items_of : V → List Outside) (r : Result V
     → ((ds : List Defined) → ((x : List ℕ) → is_some (number_of exported x) ≡ exports ds x) → map (λ (n : Bor Name). n.now) ns ≡ outside_names ds [] is)
     → IfOk r (λ v. map outside_of (items_of v) ≡ map (λ (n : Bor Name). with_given given n.now) ns)
     → IfOk r (λ v. (ds : List Defined) → map (λ (d : Defined). d.function) ds ≡ map (λ (p : Part Function). p.item.now) fs
-        → map outside_of (items_of v) ≡ map (with_given given) (outside_names ds [] is))
+    → map outside_of (items_of v) ≡ map (with_given given) (outside_names ds [] is))
 outside_if_ok items_of (Ok v) exported fs is given ns ke en h = λ ds e.
     let same : (x : List ℕ) → is_some (number_of exported x) ≡ exports ds x =
     λ x.
-        ke x ∙ ap (λ l. is_among l x) (sym (exported_names_of (λ (p : Part Function). p.item.now) fs))
-        ∙ ap (λ l. is_among (map (λ (f : Function). f.name) (filter (λ (f : Function). f.exported) l)) x) (sym e) ∙ sym (exports_are ds x) in
+    ke x ∙ ap (λ l. is_among l x) (sym (exported_names_of (λ (p : Part Function). p.item.now) fs))
+    ∙ ap (λ l. is_among (map (λ (f : Function). f.name) (filter (λ (f : Function). f.exported) l)) x) (sym e) ∙ sym (exports_are ds x) in
     h ∙ given_mapped given ns ∙ ap (map (with_given given)) (en ds same)
 outside_if_ok items_of (Err x) exported fs is given ns ke en h = tt

@@ -1,12 +1,12 @@
 -- From the lists that the code goes over to the definitions of linking.
-use Rattle.std.proofs.Common.{◌≡◌, ◌∙◌, sym, ap, ap₂, refl, ℕ, ◌+◌, ◌≤◌, Bool, not, ◌||◌, List, [], ◌∷◌, ◌++◌, map, filter, Some, Bor}
+use Rattle.std.proofs.Common.{◌≡◌, ◌∙◌, sym, ap, ap₂, refl, ℕ, not, ◌||◌, List, [], ◌∷◌, ◌++◌, map, filter, Some}
 use Rattle.bed_lang.specs.declared.word.Name.{Name}
 use Rattle.bed_lang.specs.declared.module.Import.{Import}
 use Rattle.bed_lang.specs.declared.module.Function.{Function}
 use Rattle.bed_lang.specs.declared.module.Module.{Module}
 use Rattle.bed_names.specs.InScope.{InScope}
 use Rattle.bed_names.specs.Tables.{IsIndex}
-use Rattle.bed_table.specs.Layout.{Defined, all_defined, sum_of_sizes, code_length, outside_names, outside_imports, placed, loops}
+use Rattle.bed_table.specs.Layout.{Defined, all_defined, sum_of_sizes, code_length, outside_names}
 use Rattle.bed_link.specs.declared.error.LinkError.{LinkError}
 use Rattle.bed_link.specs.declared.error.LinkError.TheVariants.{Twice, Unresolved}
 use Rattle.bed_link.specs.declared.parts.Part.{Part}
@@ -14,7 +14,7 @@ use Rattle.bed_link.specs.declared.linked.Linked.{Linked}
 use Rattle.bed_link.specs.Parts.{functions, imports, is_exported, function_claim}
 use Rattle.bed_link.specs.Faults.{refusal, fault_if}
 use Rattle.bed_link.specs.Linkable.{is_one_of, repeated, given_twice, missing, unused, module_names, function_names, exported_names, import_names, given_names, twice_faults, unresolved_faults, differs_faults, length_faults, address_faults, before_faults, faults, outside, with_given}
-use Rattle.bed_link.specs.Resolved.{function_entry, loop_entry, resolved}
+use Rattle.bed_link.specs.Resolved.{resolved}
 use Rattle.bed_link.specs.Seen.{Knows, knows, module_of, pair_of, entries_from, loops_from}
 use Rattle.bed_link.proofs.FaultLemmas.{append_none, refusal_first, refusal_later, each_same}
 use Rattle.bed_link.proofs.TableLemmas.{knows_index}

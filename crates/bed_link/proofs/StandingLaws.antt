@@ -4,14 +4,13 @@ use Rattle.std.proofs.lemmas.Bool.{ltb-false, leb-false}
 use Rattle.std.proofs.lemmas.Slice.Eq.{bytes_eq-Decides}
 use Rattle.bed_lang.specs.declared.word.Name.{Name}
 use Rattle.bed_lang.specs.declared.module.Function.{Function}
-use Rattle.bed_lang.specs.declared.module.Module.{Module}
 use Rattle.bed_table.specs.Code.{function_piece}
 use Rattle.bed_table.specs.Layout.{Defined, all_defined, Placed, placed_from, Label, address_of, function_label, import_label, is_among, code_length}
 use Rattle.bed_link.specs.declared.error.LinkError.{LinkError}
-use Rattle.bed_link.specs.declared.error.LinkError.TheVariants.{Twice, Address}
+use Rattle.bed_link.specs.declared.error.LinkError.TheVariants.{Twice}
 use Rattle.bed_link.specs.Parts.{functions}
 use Rattle.bed_link.specs.Faults.{each, each_after, fault_if}
-use Rattle.bed_link.specs.Linkable.{is_one_of, repeated, function_names, module_names, exported_names, import_names, given_names, twice_faults, unresolved_faults, differs_faults, length_faults, address_fault, address_faults, is_too_long, before_faults, outside, lies_in, is_shared}
+use Rattle.bed_link.specs.Linkable.{is_one_of, repeated, function_names, module_names, exported_names, import_names, given_names, twice_faults, unresolved_faults, differs_faults, length_faults, address_fault, address_faults, is_too_long, before_faults, outside, lies_in}
 use Rattle.bed_link.specs.Laws.{FunctionsStand, CodeFits, ImportsAreGiven, ImportsLieOutside}
 use Rattle.bed_link.proofs.TableLemmas.{among_more}
 use Rattle.bed_link.proofs.LayoutLemmas.{functions_are}
@@ -76,8 +75,7 @@ stands at (d ∷ ds) more before p none (suc k, lt, e) =
     let there = stands next ds more (before ++ d.function.name ∷ []) p rest (k, omega (arith, lt), e) in
     let other : bytes_eq d.function.name.bytes x ≡ false =
     or_right (is_among before x) (bytes_eq d.function.name.bytes x)
-    (sym (among_more before d.function.name x) ∙ not_before (before ++ d.function.name ∷ []) (names_of ds) x rest there.1) in
-    (
+    (sym (among_more before d.function.name x) ∙ not_before (before ++ d.function.name ∷ []) (names_of ds) x rest there.1) in (
       ap (λ b. cond b at (address_of (map function_label (placed_from next ds) ++ more) x)) other ∙ there.0,
       ap (λ b. bytes_eq d.function.name.bytes x || b) there.1 ∙ or_true (bytes_eq d.function.name.bytes x),
     )
@@ -105,8 +103,7 @@ code_fits modules given base linkable =
     let rest = right_none (twice_faults (module_names modules) (function_names modules) (given_names given)) _ before in
     let more = right_none (unresolved_faults (exported_names modules) (import_names modules) (given_names given)) _ rest in
     let none : length_faults base (code_length modules) ≡ [] = right_none (differs_faults modules) _ more in
-    let short : is_too_long base (code_length modules) ≡ false = no_fault _ _ none in
-    (
+    let short : is_too_long base (code_length modules) ≡ false = no_fault _ _ none in (
       ltb-false 1048576 (code_length modules) (or_left (nat_lt 1048576 (code_length modules)) _ short),
       ltb-false 4294967296 (base + code_length modules) (or_right (nat_lt 1048576 (code_length modules)) _ short),
     )

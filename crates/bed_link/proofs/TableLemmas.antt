@@ -1,8 +1,7 @@
 -- What tables know.
-use Rattle.std.proofs.Common.{◌≡◌, ◌∙◌, sym, ap, subst, refl, ℕ, suc, zero, ◌+◌, ◌<◌, add-one, Bool, true, false, cond, not, ◌||◌, List, [], ◌∷◌, ◌++◌, map, length, take, drop, get_or, Option, None, Some, is_some, is_none, bytes_eq, arith, Result, Ok, Err, IfOk}
-use Rattle.std.specs.Prelude.{find, option_map, slice_get}
-use Rattle.std.specs.Bool.{OnTrue, OnFalse}
-use Rattle.std.proofs.lemmas.List.{take_more, take-map, get_or-map, length-map}
+use Rattle.std.proofs.Common.{◌≡◌, ◌∙◌, sym, ap, subst, refl, ℕ, suc, zero, ◌+◌, ◌<◌, add-one, Bool, true, false, cond, not, ◌||◌, List, [], ◌∷◌, ◌++◌, map, length, take, get_or, Option, None, Some, is_some, is_none, bytes_eq, Result, Ok, Err, IfOk}
+use Rattle.std.specs.Prelude.{find, option_map}
+use Rattle.std.proofs.lemmas.List.{take-map, get_or-map, length-map}
 use Rattle.bed_lang.specs.declared.word.Name.{Name}
 use Rattle.bed_names.specs.Tables.{number_of, position_of, IsIndex, item_at}
 use Rattle.bed_names.proofs.TableLaws.{bytes_eq_turned}

@@ -1,5 +1,5 @@
 -- When modules can be linked: the five rules, with what breaks each in the order in which it is refused.
-use Rattle.std.specs.Prelude.{◌≡◌, ℕ, ◌+◌, ◌-◌, ◌^◌, Bool, not, ◌||◌, ◌&&◌, nat_le, nat_lt, nat_eq, min, List, [], ◌∷◌, ◌++◌, map, Option, count_by}
+use Rattle.std.specs.Prelude.{◌≡◌, ℕ, ◌+◌, ◌-◌, ◌^◌, Bool, not, ◌||◌, ◌&&◌, nat_le, nat_lt, nat_eq, min, List, [], ◌++◌, map, Option, count_by}
 use Rattle.bed_lang.specs.declared.word.Name.{Name}
 use Rattle.bed_lang.specs.declared.module.Signature.{Signature}
 use Rattle.bed_lang.specs.declared.module.Predicate.{Predicate}

@@ -20,11 +20,7 @@ pub enum LinkError {
     /// The signature or predicate of this name isn't the same in two modules; or the import of this name
     /// has another signature than the function, or than the first import of it.
     #[error("a name differs in modules {first} and {second}")]
-    Differs {
-        name: Name,
-        first: u32,
-        second: u32,
-    },
+    Differs { name: Name, first: u32, second: u32 },
     /// The code is longer than 1,048,576 bytes or passes 2^32. At most 18446744073709551615.
     #[error("the code is too long: {0} bytes")]
     CodeTooLong(u64),

@@ -57,11 +57,7 @@ fn functions_at(
 }
 
 // Appends loops of a function.
-fn push_loops(
-    out: &mut List<(u32, u32)>,
-    number: u32,
-    heads: &[u64],
-) -> Result<(), AllocError>
+fn push_loops(out: &mut List<(u32, u32)>, number: u32, heads: &[u64]) -> Result<(), AllocError>
     requires { All (λ h. h < 2 ^ 32) heads.now }
     ensures { OnOk result (out.new ≡ out.old ++ map (loop_at number) heads.now) }
 {

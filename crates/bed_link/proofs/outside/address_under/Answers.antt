@@ -1,5 +1,4 @@
 use Rattle.std.proofs.Common.{◌∙◌, ap, map}
-use Rattle.std.specs.Prelude.{◌≡◌}
 use Rattle.bed_names.specs.Tables.{item_at}
 use Rattle.bed_table.specs.Layout.{address_of, import_label}
 use Rattle.bed_link.specs.Seen.{address_or_none}

@@ -1,4 +1,4 @@
-use Rattle.std.proofs.Common.{◌∙◌, sym, ap, map, subst, ◌≡◌}
+use Rattle.std.proofs.Common.{◌∙◌, ap, map}
 use Rattle.bed_link.proofs.OutsideLemmas.{outside_if_ok}
 use Rattle.bed_link.proofs.outside.outside_imports.Goals as goal
 

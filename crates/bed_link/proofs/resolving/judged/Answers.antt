@@ -29,8 +29,8 @@ pub returns-clause-accepted : goal.returns-clause-accepted
 returns-clause-accepted c =
     accepted_map c.checked_length.result _ _
     (λ h.
-        judged_none c.args.modules.now c.args.functions.now c.args.imports.now c.args.given.now c.args.base c.requires.functions c.requires.imports
-        c.in_ok-no_name_twice.ensures.accepted c.in_ok-all_resolved.ensures.accepted c.in_ok-none_differs.ensures.accepted h)
+    judged_none c.args.modules.now c.args.functions.now c.args.imports.now c.args.given.now c.args.base c.requires.functions c.requires.imports
+    c.in_ok-no_name_twice.ensures.accepted c.in_ok-all_resolved.ensures.accepted c.in_ok-none_differs.ensures.accepted h)
     c.checked_length.ensures.accepted
 
 pub returns-clause-length : goal.returns-clause-length
@@ -43,6 +43,6 @@ pub returns-clause-refused : goal.returns-clause-refused
 returns-clause-refused c =
     told_map c.checked_length.result _ _
     (λ e h.
-        judged_long c.args.modules.now c.args.functions.now c.args.imports.now c.args.given.now c.args.base c.requires.functions c.requires.imports
-        c.in_ok-no_name_twice.ensures.accepted c.in_ok-all_resolved.ensures.accepted e c.in_ok-none_differs.ensures.accepted h)
+    judged_long c.args.modules.now c.args.functions.now c.args.imports.now c.args.given.now c.args.base c.requires.functions c.requires.imports
+    c.in_ok-no_name_twice.ensures.accepted c.in_ok-all_resolved.ensures.accepted e c.in_ok-none_differs.ensures.accepted h)
     c.checked_length.ensures.refused

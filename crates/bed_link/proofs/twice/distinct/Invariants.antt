@@ -1,4 +1,4 @@
-use Rattle.std.proofs.Common.{◌≡◌, [], take, drop, map}
+use Rattle.std.proofs.Common.{◌≡◌, take, drop, map}
 use Rattle.bed_names.specs.Tables.{IsIndex}
 use Rattle.bed_link.specs.Linkable.{repeated, is_one_of}
 use Rattle.bed_link.specs.Faults.{each_after, fault_if}

@@ -13,14 +13,14 @@ pub returns-clause-accepted : goal.returns-clause-accepted
 returns-clause-accepted c =
     accepted_map c.apart.result _ _
     (λ h.
-        given_accepted (map (λ s. s.«module».name) c.args.modules.now) (map (λ p. p.item.now.name) c.args.functions.now) (map (λ g. g.0) c.args.given.now) c.in_ok-given.given c.in_ok-distinct.ensures.accepted c.in_ok-distinct-2.ensures.accepted c.in_ok-given.ensures.accepted
-        c.in_ok-given.ensures.table h)
+    given_accepted (map (λ s. s.«module».name) c.args.modules.now) (map (λ p. p.item.now.name) c.args.functions.now) (map (λ g. g.0) c.args.given.now) c.in_ok-given.given c.in_ok-distinct.ensures.accepted c.in_ok-distinct-2.ensures.accepted c.in_ok-given.ensures.accepted
+    c.in_ok-given.ensures.table h)
     c.apart.ensures.accepted
 
 pub returns-clause-refused : goal.returns-clause-refused
 returns-clause-refused c =
     refused_map c.apart.result _ _
     (λ e h.
-        given_refused (map (λ s. s.«module».name) c.args.modules.now) (map (λ p. p.item.now.name) c.args.functions.now) (map (λ g. g.0) c.args.given.now) c.in_ok-given.given c.in_ok-distinct.ensures.accepted c.in_ok-distinct-2.ensures.accepted c.in_ok-given.ensures.accepted
-        c.in_ok-given.ensures.table e h)
+    given_refused (map (λ s. s.«module».name) c.args.modules.now) (map (λ p. p.item.now.name) c.args.functions.now) (map (λ g. g.0) c.args.given.now) c.in_ok-given.given c.in_ok-distinct.ensures.accepted c.in_ok-distinct-2.ensures.accepted c.in_ok-given.ensures.accepted
+    c.in_ok-given.ensures.table e h)
     c.apart.ensures.refused

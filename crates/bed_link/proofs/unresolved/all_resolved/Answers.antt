@@ -14,14 +14,14 @@ pub returns-clause-accepted : goal.returns-clause-accepted
 returns-clause-accepted c =
     accepted_map c.all_used.result _ _
     (λ h.
-        used_accepted c.args.functions.now c.args.imports.now c.args.given.now c.in_ok-exported.exported c.in_ok-words.words c.in_ok-exported.ensures
-        c.in_ok-words.ensures c.in_ok-imported.imported c.in_ok-imported.ensures c.in_ok-all_found.ensures.accepted h)
+    used_accepted c.args.functions.now c.args.imports.now c.args.given.now c.in_ok-exported.exported c.in_ok-words.words c.in_ok-exported.ensures
+    c.in_ok-words.ensures c.in_ok-imported.imported c.in_ok-imported.ensures c.in_ok-all_found.ensures.accepted h)
     c.all_used.ensures.accepted
 
 pub returns-clause-refused : goal.returns-clause-refused
 returns-clause-refused c =
     refused_map c.all_used.result _ _
     (λ e h.
-        used_refused c.args.functions.now c.args.imports.now c.args.given.now c.in_ok-exported.exported c.in_ok-words.words c.in_ok-exported.ensures
-        c.in_ok-words.ensures c.in_ok-imported.imported c.in_ok-imported.ensures c.in_ok-all_found.ensures.accepted e h)
+    used_refused c.args.functions.now c.args.imports.now c.args.given.now c.in_ok-exported.exported c.in_ok-words.words c.in_ok-exported.ensures
+    c.in_ok-words.ensures c.in_ok-imported.imported c.in_ok-imported.ensures c.in_ok-all_found.ensures.accepted e h)
     c.all_used.ensures.refused
