@@ -1,0 +1,8 @@
+mod FaultLemmas
+mod TableLemmas
+mod DistinctLemmas
+mod LayoutLemmas
+mod OutsideLemmas
+mod HeadLemmas
+mod ResolvingLemmas
+pub mod StandingLaws
