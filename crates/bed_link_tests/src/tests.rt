@@ -47,9 +47,15 @@ const CASES: [(&[&[u8]], &[(&[u8], u32)], &str); 20] = [
         &[(b"x", 1), (b"x", 2)],
         "twice g",
     ),
-    (&[b"module m;"], &[(b"x", 1), (b"y", 1), (b"y", 2), (b"x", 2)], "twice y"),
     (
-        &[b"module a; signature S() pre emp post emp; function f: S { return 0; } function g: S { return 0; }"],
+        &[b"module m;"],
+        &[(b"x", 1), (b"y", 1), (b"y", 2), (b"x", 2)],
+        "twice y",
+    ),
+    (
+        &[
+            b"module a; signature S() pre emp post emp; function f: S { return 0; } function g: S { return 0; }",
+        ],
         &[(b"g", 1), (b"f", 2)],
         "twice f",
     ),
@@ -137,7 +143,9 @@ const CASES: [(&[&[u8]], &[(&[u8], u32)], &str); 20] = [
         "21 bytes, f at 4194304, say = 4194325",
     ),
     (
-        &[b"module m; signature P() pre emp post emp; import w: P; import x: P; import y: P; import z: P;"],
+        &[
+            b"module m; signature P() pre emp post emp; import w: P; import x: P; import y: P; import z: P;",
+        ],
         &[(b"z", 1), (b"y", 2), (b"x", 1), (b"w", 3)],
         "address x",
     ),

@@ -1,0 +1,5 @@
+mod EquivalenceLemmas
+mod AgreementLemmas
+mod ConsistentLemmas
+mod StandingLemmas
+pub mod FittingLaws
