@@ -1,2 +1,3 @@
+mod BeginningLemmas
 mod ListingLemmas
 pub mod ListingLaws

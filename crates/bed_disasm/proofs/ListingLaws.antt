@@ -1,12 +1,15 @@
 -- An image has one listing, and an address of its code one line.
-use Rattle.std.proofs.Common.{◌≡◌, ℕ, ◌+◌, List, ◌++◌, take, refl, sym, ap, subst, ◌∙◌, arith}
+use Rattle.std.proofs.Common.{◌≡◌, inl, inr, ℕ, zero, suc, ◌+◌, ◌-◌, ◌<◌, ◌≤◌, List, [], ◌∷◌, ◌++◌, length, take, slice_index, refl, sym, ap, subst, ◌∙◌, arith}
+use Rattle.std.proofs.lemmas.List.{length-drop}
 use Rattle.bed_lang.specs.Numbers.{wrap}
 use Rattle.bed_machine.specs.MachineCode.{MachineCode, bytes_from}
-use Rattle.bed_machine.proofs.InstructionLaws.{one_instruction}
+use Rattle.bed_machine.proofs.InstructionLaws.{one_instruction, begins_size, size_range}
 use Rattle.bed_image.specs.declared.image.Symbol.{Symbol}
 use Rattle.bed_image.specs.declared.image.Image.{Image}
 use Rattle.bed_disasm.specs.Text.{instruction_text}
-use Rattle.bed_disasm.specs.Listing.{IsLine, Instruction, Byte, IsListed, End, Line, IsListing, name_lines, line_text}
+use Rattle.bed_disasm.specs.Listing.{IsLine, Instruction, Byte, IsListed, End, Line, IsListing, name_lines, line_text, byte_says}
+use Rattle.bed_disasm.specs.Laws.{BeginsOrNot, HasListing}
+use Rattle.bed_disasm.proofs.BeginningLemmas.{begun}
 
 -- how many bytes the line covers, and its text
 pub one_line : (at : ℕ) (bytes : List ℕ) (size other : ℕ) (text also : List ℕ) → IsLine at bytes size text → IsLine at bytes other also → (size ≡ other) × (text ≡ also)
@@ -32,3 +35,51 @@ one_rest c symbols at to text also (Line a n line rest inside is more) (Line b m
 -- the whole listing
 pub one_listing : (i : Image) (text also : List ℕ) → IsListing i text → IsListing i also → text ≡ also
 one_listing i text also a b = one_rest i.code i.symbols i.code.base i.code.base text also a b refl
+
+-- That an image has a listing: at each address an instruction begins, or none does.
+
+pub begins_or_not : (bytes : List ℕ) → BeginsOrNot bytes
+begins_or_not bytes = begun bytes
+
+-- a line at an address, which covers no more bytes than there are
+record HasLine (at : ℕ) (bytes : List ℕ) : Type 0 where
+  size : ℕ
+  text : List ℕ
+  line : IsLine at bytes size text
+  some : 0 < size
+  within : size ≤ length bytes
+
+line_from : (at : ℕ) (bytes : List ℕ) → 0 < length bytes → BeginsOrNot bytes → HasLine at bytes
+line_from at bytes there (inl (i, n, b)) = record {
+  size = n;
+  text = line_text at (take n bytes) (instruction_text (wrap (at + n)) i);
+  line = Instruction i b refl;
+  some = (size_range bytes i n b).0;
+  within = begins_size bytes i n b;
+}
+line_from at bytes there (inr none) = record {
+  size = 1;
+  text = line_text at (slice_index bytes 0 ∷ []) (byte_says (slice_index bytes 0));
+  line = Byte none refl refl;
+  some = omega arith;
+  within = there;
+}
+
+a_line : (at : ℕ) (bytes : List ℕ) → 0 < length bytes → HasLine at bytes
+a_line at bytes there = line_from at bytes there (begins_or_not bytes)
+
+rest_listed : (c : MachineCode) (symbols : List Symbol) (left at : ℕ) → c.base ≤ at → at + left ≡ c.base + length c.bytes → (most : ℕ) → left ≤ most
+    → (text : List ℕ) × IsListed c symbols at text
+rest_listed c symbols zero at from is most fits = ([], subst (λ n. IsListed c symbols n []) (let e : c.base + length c.bytes ≡ at = omega (arith, is) in e) End)
+rest_listed c symbols (suc left) at from is zero fits = absurd (omega (arith, fits))
+rest_listed c symbols (suc left) at from is (suc most) fits =
+    let inside : at < c.base + length c.bytes = omega (arith, is) in
+    let long : length (bytes_from c at) ≡ suc left = omega (arith, is, from, length-drop (at - c.base) c.bytes) in
+    let l = a_line at (bytes_from c at) (omega (arith, long)) in
+    let some = l.some in
+    let within = l.within in
+    let more = rest_listed c symbols (suc left - l.size) (at + l.size) (omega (arith, from)) (omega (arith, is, within, long)) most (omega (arith, fits, some)) in
+    (name_lines symbols at ++ (l.text ++ more.0), Line at l.size l.text more.0 (from, inside) l.line more.1)
+
+pub a_listing : (i : Image) → HasListing i
+a_listing i = rest_listed i.code i.symbols (length i.code.bytes) i.code.base (omega arith) refl (length i.code.bytes) (omega arith)

@@ -170,7 +170,7 @@ code_takes base size r c fits e =
     let all : r.bytes ≡ f.0.0 = t.0.parts ∙ ap (λ (more : List ℕ). f.0.0 ++ more) nothing ∙ append-nil f.0.0 in
     record { is = sym g.1 ∙ ap (λ (bs : List ℕ). let made : MachineCode = record { base = base; bytes = bs } in made) (sym all); long = ap length all ∙ t.1 }
 
-image_takes : (bytes : List ℕ) (i : Image) → IsBytes bytes → image_of bytes ≡ Ok i → IsImage i × (bytes ≡ image_bytes i)
+pub image_takes : (bytes : List ℕ) (i : Image) → IsBytes bytes → image_of bytes ≡ Ok i → IsImage i × (bytes ≡ image_bytes i)
 unfolding image_of
 image_takes bytes i fits e =
     let x = bind_ok (header_at (record { at = 0; bytes = bytes })) (λ x. code_at x.0.base x.0.size x.1 >>= λ code. Ok (record { code = code; symbols = x.0.symbols })) i e in

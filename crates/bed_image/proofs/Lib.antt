@@ -3,3 +3,4 @@ mod SymbolLemmas
 mod ImageLemmas
 mod LoopLemmas
 mod FaultLemmas
+pub mod FileLaws

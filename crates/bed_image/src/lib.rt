@@ -5,11 +5,13 @@
 //! the first fault; [`write_image`] and [`header`] write what it reads.
 //!
 //! The definitions that the contracts cite stand in `specs/`: `Format` has the bytes of an image and says which
-//! values are images, and `Faults` has the fields in their order and the first fault of bytes that are none.
+//! values are images, `Faults` has the fields in their order and the first fault of bytes that are none, and `Laws`
+//! what holds of every file.
 #![tactic(auto)]
 
 mod error;
 mod image;
+pub mod laws;
 mod reading;
 mod writing;
 
