@@ -39,7 +39,7 @@ both (inl a) (inr never) = inr (λ p. never p.1)
 both (inr never) d = inr (λ p. never p.0)
 
 less : (a b : ℕ) → Decided (a < b)
-less a b = elim (cases_lt a b) [ | inl lt ↦ inl lt | inr le ↦ inr (λ lt. absurd (omega (arith, le, lt))) ]
+less a b = elim (cases_lt a b) [ inl lt ↦ inl lt | inr le ↦ inr (λ lt. absurd (omega (arith, le, lt))) ]
 
 -- over all registers, operations, branches and truth values
 
@@ -86,7 +86,7 @@ module _ (P : Arith → Type 0) where
   as_arith Xor p = inr (inr (inr (inr p)))
 
   some_arith : ((op : Arith) → Decided (P op)) → Decided ((op : Arith) × P op)
-  some_arith d = elim (either (d Add) (either (d Or) (either (d And) (either (d Sub) (d Xor))))) [ | inl p ↦ inl (of_arith p) | inr never ↦ inr (λ p. never (as_arith p.0 p.1)) ]
+  some_arith d = elim (either (d Add) (either (d Or) (either (d And) (either (d Sub) (d Xor))))) [ inl p ↦ inl (of_arith p) | inr never ↦ inr (λ p. never (as_arith p.0 p.1)) ]
 
 module _ (P : Branch → Type 0) where
   of_branch : (P Below ⊎ (P NotBelow ⊎ (P Equal ⊎ (P NotEqual ⊎ (P NotAbove ⊎ P Above))))) → (b : Branch) × P b
@@ -121,7 +121,7 @@ module _ (P : Bool → Type 0) where
   as_bool false p = inr p
 
   some_bool : ((b : Bool) → Decided (P b)) → Decided ((b : Bool) × P b)
-  some_bool d = elim (either (d true) (d false)) [ | inl p ↦ inl (of_bool p) | inr never ↦ inr (λ p. never (as_bool p.0 p.1)) ]
+  some_bool d = elim (either (d true) (d false)) [ inl p ↦ inl (of_bool p) | inr never ↦ inr (λ p. never (as_bool p.0 p.1)) ]
 
 -- one instruction
 
@@ -238,7 +238,7 @@ module _ (bytes : List ℕ) where
       (either (pair (λ to from. Cmp to from))
       (either (pair (λ to from. Imul to from))
       (either (some_bool (λ b. (to : Reg) × Begins bytes (Immediate b to (word_from 2 bytes)))
-          (λ b. some_reg (λ to. Begins bytes (Immediate b to (word_from 2 bytes))) (λ to. one bytes (Immediate b to (word_from 2 bytes)))))
+      (λ b. some_reg (λ to. Begins bytes (Immediate b to (word_from 2 bytes))) (λ to. one bytes (Immediate b to (word_from 2 bytes)))))
       (either (one bytes (Jmp (word_from 1 bytes)))
       (either (some_branch (λ b. Begins bytes (Jcc b (word_from 2 bytes))) (λ b. one bytes (Jcc b (word_from 2 bytes))))
       (some_reg (λ r. Begins bytes (JmpReg r)) (λ r. one bytes (JmpReg r)))))))))))))))
@@ -287,4 +287,4 @@ module _ (bytes : List ℕ) where
   form (JmpReg r) b = inr (inr (inr (inr (inr (inr (inr (inr (inr (inr (inr (inr (inr (r, b)))))))))))))
 
   pub begun : BeginsOrNot bytes
-  begun = elim forms [ | inl f ↦ inl (found f) | inr never ↦ inr (λ i size b. never (form i (whole bytes i size b))) ]
+  begun = elim forms [ inl f ↦ inl (found f) | inr never ↦ inr (λ i size b. never (form i (whole bytes i size b))) ]
