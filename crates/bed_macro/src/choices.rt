@@ -1,9 +1,11 @@
 //! A choice of two macros by a test.
 
-ghost use Rattle.std.specs.Prelude.{◌≡◌, ◌+◌, ◌<◌, ◌^◌, ◌++◌, ◌∷◌, ◌||◌, [], Some, None, IsSome, IfOk, OnOk, OnErr, if◌then◌else◌, length, option_map, refl};
+ghost use Rattle.std.specs.Prelude.{◌≡◌, ◌↔◌, ◌+◌, ◌<◌, ◌^◌, ◌++◌, ◌∷◌, ◌||◌, [], Some, None, IsSome, IfOk, OnOk, OnErr, if◌then◌else◌, length, option_map, refl};
 ghost use Rattle.std.specs.Option.{option_or};
+ghost use Rattle.bed_lang.specs.declared.condition.Decls.{Decls};
 ghost use Rattle.bed_lang.specs.declared.statement.StmtKind.{If};
 ghost use Rattle.bed_sat.specs.Conditions.{path_from, where_true, where_false, body_part};
+ghost use Rattle.bed_laws.specs.Activations.{FunctionSite};
 ghost use Rattle.bed_laws.specs.Counts.{body_count};
 ghost use Rattle.bed_laws.specs.Statements.{IsJoined};
 ghost use Rattle.bed_laws.specs.StatementBlocks.{IsKnown, jump_count, choice_blocks};
@@ -37,10 +39,12 @@ impl<A: Macro, B: Macro> Choice<A, B> {
     /// `yes` where the test is true, else `no`. Where both come to their ends there is a join.
     pub fn new(test: Test, yes: A, no: B, join: Option<Join>) -> Choice<A, B>
         requires { 1 + A.count yes + jump_count (A.comes yes) + B.count no < 2 ^ 32 }
-        ensures test { result.test ≡ test }
-        ensures yes { result.yes ≡ yes }
-        ensures no { result.no ≡ no }
-        ensures join { result.join ≡ join }
+        ensures stands { ⟦<Choice<A, B> as Macro>⟧.stands result ≡ record { at = 0; kind = If test (A.stands yes) (B.stands no) join } ∷ [] }
+        ensures count { ⟦<Choice<A, B> as Macro>⟧.count result ≡ 1 + A.count yes + jump_count (A.comes yes) + B.count no }
+        ensures comes { ⟦<Choice<A, B> as Macro>⟧.comes result ≡ (A.comes yes || B.comes no) }
+        ensures code { ⟦<Choice<A, B> as Macro>⟧.code result ≡ (λ locals label next. choice_blocks (A.comes yes) locals test (A.count yes) label next (A.code yes locals) (B.code no locals)) }
+        ensures heads { ⟦<Choice<A, B> as Macro>⟧.heads result ≡ (λ label. A.heads yes (label + 1) ++ B.heads no (label + 1 + A.count yes + jump_count (A.comes yes))) }
+        ensures fits { (d : Decls) (c : FunctionSite) → ⟦<Choice<A, B> as Macro>⟧.fits result d c ↔ (A.fits yes d c × B.fits no d c × IsKnown c.site.locals test.left × IsKnown c.site.locals test.right × IsJoined join (A.stands yes) (B.stands no)) }
     {
         Choice {
             test,

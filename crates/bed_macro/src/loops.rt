@@ -1,8 +1,10 @@
 //! A loop over a macro.
 
-ghost use Rattle.std.specs.Prelude.{◌≡◌, ◌+◌, ◌<◌, ◌^◌, ◌++◌, ◌∷◌, [], IsSome, IfOk, OnOk, OnErr, length, Some, option_map, true};
+ghost use Rattle.std.specs.Prelude.{◌≡◌, ◌↔◌, ◌+◌, ◌<◌, ◌^◌, ◌++◌, ◌∷◌, [], IsSome, IfOk, OnOk, OnErr, length, Some, option_map, true};
+ghost use Rattle.bed_lang.specs.declared.condition.Decls.{Decls};
 ghost use Rattle.bed_lang.specs.declared.statement.StmtKind.{While};
 ghost use Rattle.bed_sat.specs.Conditions.{body_part, path_from, where_true, where_false, owed_up_to};
+ghost use Rattle.bed_laws.specs.Activations.{FunctionSite};
 ghost use Rattle.bed_laws.specs.Counts.{body_count};
 ghost use Rattle.bed_laws.specs.StatementBlocks.{IsKnown, jump_count, loop_blocks};
 ghost use Rattle.bed_laws.proofs.MacroLaws.{loop_spans, loop_numbered, loop_keeps, outside_body};
@@ -35,10 +37,12 @@ impl<B: Macro> Loop<B> {
     /// The body as long as the test is true; the place is that of the loop's conditions.
     pub fn new(test: Test, place: u32, invariant: Assertion, body: B) -> Loop<B>
         requires { 1 + B.count body + jump_count (B.comes body) < 2 ^ 32 }
-        ensures test { result.test ≡ test }
-        ensures place { result.place ≡ place }
-        ensures invariant { result.invariant ≡ invariant }
-        ensures body { result.body ≡ body }
+        ensures stands { ⟦<Loop<B> as Macro>⟧.stands result ≡ record { at = 0; kind = While test place invariant (B.stands body) } ∷ [] }
+        ensures count { ⟦<Loop<B> as Macro>⟧.count result ≡ 1 + B.count body + jump_count (B.comes body) }
+        ensures comes { ⟦<Loop<B> as Macro>⟧.comes result ≡ true }
+        ensures code { ⟦<Loop<B> as Macro>⟧.code result ≡ (λ locals label next. loop_blocks (B.comes body) locals test (B.count body) label next (B.code body locals)) }
+        ensures heads { ⟦<Loop<B> as Macro>⟧.heads result ≡ (λ label. record { label = label; invariant = invariant } ∷ B.heads body (label + 1)) }
+        ensures fits { (d : Decls) (c : FunctionSite) → ⟦<Loop<B> as Macro>⟧.fits result d c ↔ (B.fits body d c × IsKnown c.site.locals test.left × IsKnown c.site.locals test.right) }
     {
         Loop {
             test,

@@ -1,7 +1,9 @@
 //! Two macros, one after the other.
 
-ghost use Rattle.std.specs.Prelude.{◌≡◌, ◌+◌, ◌<◌, ◌^◌, ◌++◌, true};
+ghost use Rattle.std.specs.Prelude.{◌≡◌, ◌↔◌, ◌+◌, ◌<◌, ◌^◌, ◌++◌, true};
 ghost use Rattle.std.proofs.Common.{◌∙◌};
+ghost use Rattle.bed_lang.specs.declared.condition.Decls.{Decls};
+ghost use Rattle.bed_laws.specs.Activations.{FunctionSite};
 ghost use Rattle.bed_laws.proofs.MacroLaws.{just_after, outside_back, then_spans, then_numbered, then_keeps, then_lays};
 ghost use Rattle.bed_laws.proofs.StatementsLaws.{then_falls};
 ghost use Rattle.bed_macro.specs.EndLaws.{then_ends};
@@ -25,8 +27,12 @@ impl<A: Macro, B: Macro> Then<A, B> {
     /// The first and then the second.
     pub fn new(first: A, second: B) -> Then<A, B>
         requires { A.count first + B.count second < 2 ^ 32 }
-        ensures first { result.first ≡ first }
-        ensures second { result.second ≡ second }
+        ensures stands { ⟦<Then<A, B> as Macro>⟧.stands result ≡ A.stands first ++ B.stands second }
+        ensures count { ⟦<Then<A, B> as Macro>⟧.count result ≡ A.count first + B.count second }
+        ensures comes { ⟦<Then<A, B> as Macro>⟧.comes result ≡ B.comes second }
+        ensures code { ⟦<Then<A, B> as Macro>⟧.code result ≡ (λ locals label next. A.code first locals label (label + A.count first) ++ B.code second locals (label + A.count first) next) }
+        ensures heads { ⟦<Then<A, B> as Macro>⟧.heads result ≡ (λ label. A.heads first label ++ B.heads second (label + A.count first)) }
+        ensures fits { (d : Decls) (c : FunctionSite) → ⟦<Then<A, B> as Macro>⟧.fits result d c ↔ (A.fits first d c × B.fits second d c × (A.comes first ≡ true)) }
     {
         Then { first, second }
     }

@@ -1,6 +1,8 @@
 //! No statement.
 
-ghost use Rattle.std.specs.Prelude.{◌≡◌, ◌+◌, ◌∷◌, [], true, refl};
+ghost use Rattle.std.specs.Prelude.{◌≡◌, ◌↔◌, ◌+◌, ◌∷◌, [], true, refl};
+ghost use Rattle.bed_lang.specs.declared.condition.Decls.{Decls};
+ghost use Rattle.bed_laws.specs.Activations.{FunctionSite};
 ghost use Rattle.bed_laws.specs.StatementBlocks.{empty_block};
 ghost use Rattle.bed_laws.proofs.TestLaws.{one_span, no_heads};
 ghost use Rattle.bed_laws.proofs.StatementLaws.{empty_law};
@@ -16,6 +18,20 @@ use std::alloc::{AllocError, Global};
 /// No statement. It has a block all the same, without instructions, since control comes to a label.
 #[derive(Drop)]
 pub struct Skip {}
+
+impl Skip {
+    /// No statement.
+    pub fn new() -> Skip
+        ensures stands { ⟦<Skip as Macro>⟧.stands result ≡ [] }
+        ensures count { ⟦<Skip as Macro>⟧.count result ≡ 1 }
+        ensures comes { ⟦<Skip as Macro>⟧.comes result ≡ true }
+        ensures code { ⟦<Skip as Macro>⟧.code result ≡ (λ locals label next. empty_block label next ∷ []) }
+        ensures heads { ⟦<Skip as Macro>⟧.heads result ≡ (λ label. []) }
+        ensures fits { (d : Decls) (c : FunctionSite) → ⟦<Skip as Macro>⟧.fits result d c ↔ Unit {0} }
+    {
+        Skip {}
+    }
+}
 
 impl Macro for Skip {
     ghost stands = { λ m. [] };
