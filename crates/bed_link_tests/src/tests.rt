@@ -289,14 +289,12 @@ fn is_answered(
 }
 
 fn all_answered(alloc: Global) -> Result<bool, Fail> {
-    let mut number = 0;
     for (texts, given, expected) in &CASES {
         if !is_answered(alloc, texts, given, expected)? {
             return Ok(false);
         }
-        number += 1;
     }
-    Ok(number == 20)
+    Ok(true)
 }
 
 #[test]
