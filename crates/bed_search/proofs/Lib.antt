@@ -1,0 +1,4 @@
+pub mod DerivedLaws
+pub mod RefusedLaws
+pub mod SearchLaws
+pub mod SteadyLaws

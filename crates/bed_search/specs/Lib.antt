@@ -1,0 +1,7 @@
+pub mod Trees
+pub mod Given
+pub mod Ahead
+pub mod Procedure
+pub mod Answers
+pub mod Layers
+pub mod Laws
