@@ -1,0 +1,4 @@
+pub mod Certificate
+pub mod TextLemmas
+pub mod Outcomes
+pub mod TextAnswers
