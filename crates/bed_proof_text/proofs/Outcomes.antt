@@ -49,8 +49,25 @@ pub record First (p : ℕ) (ts : List Token) (ds : List (ℕ × Deriv)) : Type 0
 pub first_of : (p : ℕ) (ts : List Token) (ds : List (ℕ × Deriv)) → IsConditions p ts ds → ((ts ≡ []) × (ds ≡ [])) ⊎ First p ts ds
 first_of p _ _ (none _) = inl (refl, refl)
 first_of p _ _ (one _ n w k c s t r d ds hw hk lo hi hc x hs m) = inr (record {
-  n = n; word = w; number = k; colon = c; semicolon = s; tree = t; rest = r; d = d; more = ds; tokens = refl; list = refl;
-  begins = hw; numbered = hk; above = lo; within = hi; parts = hc; node = x; ends = hs; others = m;
+  n = n;
+  word = w;
+  number = k;
+  colon = c;
+  semicolon = s;
+  tree = t;
+  rest = r;
+  d = d;
+  more = ds;
+  tokens = refl;
+  list = refl;
+  begins = hw;
+  numbered = hk;
+  above = lo;
+  within = hi;
+  parts = hc;
+  node = x;
+  ends = hs;
+  others = m;
 })
 
 -- the parts of a proof text's heading
@@ -113,8 +130,7 @@ after_condition p n front out w k c s tree d so hw hk lo hi hc x hs alone = reco
         let tails : f.tree ++ f.semicolon ∷ f.rest ≡ tree ++ s ∷ ts = cc in
         let m : f.n ≡ n = same_number f.n f.number number f.numbered in
         let z : (f.d ≡ d) × (f.rest ≡ ts) = alone f.tree f.d f.semicolon f.rest ts f.node f.ends tails in
-        let head : (f.n, f.d) ∷ f.more ≡ (n, d) ∷ f.more = ap₂ (λ i j. (i, j) ∷ f.more) m z.0 in
-        (
+        let head : (f.n, f.d) ∷ f.more ≡ (n, d) ∷ f.more = ap₂ (λ i j. (i, j) ∷ f.more) m z.0 in (
           f.more,
           e ∙ ap (λ i. out ++ i) (f.list ∙ head) ∙ sym (append_assoc out ((n, d) ∷ []) f.more),
           subst (λ i. IsConditions i ts f.more) m (subst (λ i. IsConditions f.n i f.more) z.1 f.others),

@@ -18,8 +18,7 @@ whole_begins ts ds is = ([], All-nil IsLexeme, (ds, subst (λ z. IsProofs z ds) 
 -- tokens that end too early begin a proof text
 early_begins : (ts : List Token) → FirstError IsLexeme IsText ts [] None → BeginsProofs ts
 early_begins ts u =
-    let e : u.front ≡ ts = sym (u.split ∙ append-nil u.front) in
-    (
+    let e : u.front ≡ ts = sym (u.split ∙ append-nil u.front) in (
       tokens_of u.completion,
       u.lexemes,
       (u.value, subst (λ z. IsProofs z u.value) (tokens_of-append (unmarked u.front) u.completion ∙ ap (λ z. z ++ tokens_of u.completion) (tokens_of-unmarked ⊥ u.front ∙ e)) u.viable),
