@@ -18,3 +18,5 @@ mod values;
 
 pub use bed_check_pure::Verdict;
 pub use condition::check;
+pub use onward::onward;
+pub use point::{Ahead, Aim, Left, Point};

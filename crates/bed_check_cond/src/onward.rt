@@ -163,11 +163,13 @@ fn change<'a>(
     }
 }
 
-/// What a node leaves of the rest of a condition.
+/// What a node with this rule, these arguments and `n` children leaves of the rest of a condition at `at`: the facts
+/// that its first children are to prove, and the states from which the others go on.
 ///
 /// # Errors
-/// The first premise that fails; `Memory` for want of memory.
-pub(crate) fn onward<'a>(
+/// The first premise of the rule that fails: `Count` for a wrong number of children, `Argument` for arguments that
+/// are none of the rule's, `Condition` where the rule doesn't hold here. `Memory` for want of memory.
+pub fn onward<'a>(
     alloc: Global,
     decls: &Decls,
     function: &Name,
@@ -176,7 +178,7 @@ pub(crate) fn onward<'a>(
     args: &[DArg],
     n: usize,
 ) -> Result<Left<'a>, Fault>
-    ensures { AnswersBy onward_left result (onward_at decls.now function.now rule (rest_of at.now) args.now n) }
+    ensures exact { AnswersBy onward_left result (onward_at decls.now function.now rule (rest_of at.now) args.now n) }
 {
     match rule {
         Rule::Step => step(alloc, decls, at, args, n),

@@ -186,6 +186,16 @@ old_answer ν [] vs = refl
 old_answer ν (x ∷ xs) [] = refl
 old_answer ν (x ∷ xs) (v ∷ vs) = old_answer (set_word ν (Old x.bytes) v) xs vs
 
+old_fresh : (ν : Values) (xs : List Name) (vs : List ℕ) (k : ℕ) → (set_olds ν xs vs).words (Fresh k) ≡ ν.words (Fresh k)
+old_fresh ν [] vs k = refl
+old_fresh ν (x ∷ xs) [] k = refl
+old_fresh ν (x ∷ xs) (v ∷ vs) k = old_fresh (set_word ν (Old x.bytes) v) xs vs k
+
+old_hole : (ν : Values) (xs : List Name) (vs : List ℕ) → (set_olds ν xs vs).words Hole ≡ ν.words Hole
+old_hole ν [] vs = refl
+old_hole ν (x ∷ xs) [] = refl
+old_hole ν (x ∷ xs) (v ∷ vs) = old_hole (set_word ν (Old x.bytes) v) xs vs
+
 old_outside : (ν : Values) (xs : List Name) (vs : List ℕ) (y : List ℕ) → (IsAmong xs y → ⊥) → (set_olds ν xs vs).words (Old y) ≡ ν.words (Old y)
 old_outside ν [] vs y out = refl
 old_outside ν (x ∷ xs) [] y out = refl
@@ -225,20 +235,27 @@ words_at_long m x (suc n) = ap suc (words_at_long m (wrap (x + 4)) n)
 old_not_named : {x y : List ℕ} → Old x ≡ Named y → ⊥
 old_not_named e = cc
 
+fresh_not_named : {k : ℕ} {y : List ℕ} → Fresh k ≡ Named y → ⊥
+fresh_not_named e = cc
+
+hole_not_named : {y : List ℕ} → Hole ≡ Named y → ⊥
+hole_not_named e = cc
+
 named_same : {x y : List ℕ} → Named x ≡ Named y → x ≡ y
 named_same e = cc
 
 -- values that are the same for a signature's own variables
-own_agree : (further : List Name) (ν μ : Values) → ((x : List ℕ) → (IsAmong further x → ⊥) → ν.words (Named x) ≡ μ.words (Named x)) → ν.words Answer ≡ μ.words Answer → ((x : Variable) → ν.lists x ≡ μ.lists x)
+own_agree : (further : List Name) (ν μ : Values) → ((x : List ℕ) → (IsAmong further x → ⊥) → ν.words (Named x) ≡ μ.words (Named x)) → ν.words Answer ≡ μ.words Answer
+    → ((k : ℕ) → ν.words (Fresh k) ≡ μ.words (Fresh k)) → ν.words Hole ≡ μ.words Hole → ((x : Variable) → ν.lists x ≡ μ.lists x)
     → Agree (own_variables further) ν μ
-own_agree further ν μ named answer lists = record { words = words; lists = λ x is. lists x }
+own_agree further ν μ named answer fresh hole lists = record { words = words; lists = λ x is. lists x }
   where
     words : (x : Variable) → IsTrue (own_variables further sort.Word x) → ν.words x ≡ μ.words x
     words (Named x) is = named x (among_test further x is)
     words (Old x) is = absurd (not_true is)
     words Answer is = answer
-    words (Fresh k) is = absurd (not_true is)
-    words Hole is = absurd (not_true is)
+    words (Fresh k) is = fresh k
+    words Hole is = hole
 
 module _ (w : World) (c : FunctionSite) (further : List Name) (sc : IsScoped c further) where
   abbrev S : Signature
@@ -291,6 +308,8 @@ module _ (w : World) (c : FunctionSite) (further : List Name) (sc : IsScoped c f
         is_frame = (e.rp ∷ (words_of r.values c.site.locals ++ m.area), omega (arith, m.size, length-append (words_of r.values c.site.locals) m.area, words_long r.values c.site.locals), m.is_frame);
         post = holds_agree w (own_variables further) here there S.post r.heap (own_agree further here there
             (λ x out. ap (λ l. (set_words r.values S.params l).words (Named x)) (olds_same ν r.values e agree) ∙ param_same ν r.values e x out agree) refl
+            (λ k. set_fresh r.values S.params olds k ∙ agree.words (Fresh k) (λ y is z. fresh_not_named z) ∙ old_fresh ν S.params args k ∙ sym (set_fresh ν S.params args k))
+            (set_hole r.values S.params olds ∙ agree.words Hole (λ y is z. hole_not_named z) ∙ old_hole ν S.params args ∙ sym (set_hole ν S.params args))
             (λ y. set_lists r.values S.params olds y ∙ agree.lists y ∙ old_lists ν S.params args y ∙ sym (set_lists ν S.params args y))) sc.post r.post;
       }
 
@@ -357,6 +376,8 @@ module _ (w : World) (c : FunctionSite) (further : List Name) (sc : IsScoped c f
     entry_pre = holds_agree w (own_variables further) (set_words ν S.params args) entry_values S.pre en.heap (own_agree further (set_words ν S.params args) entry_values
         (λ x out. sym (entry_param x out ∙ sym (set_inside ν olds_values S.params args x (arguments_long e) (inl (sym (old_named ν S.params args x))))))
         (set_answer ν S.params args ∙ sym (old_answer ν S.params args) ∙ sym (set_answer olds_values (S.params ++ further) (args ++ extras)))
+        (λ k. set_fresh ν S.params args k ∙ sym (old_fresh ν S.params args k) ∙ sym (set_fresh olds_values (S.params ++ further) (args ++ extras) k))
+        (set_hole ν S.params args ∙ sym (old_hole ν S.params args) ∙ sym (set_hole olds_values (S.params ++ further) (args ++ extras)))
         (λ x. set_lists ν S.params args x ∙ sym (old_lists ν S.params args x) ∙ sym (set_lists olds_values (S.params ++ further) (args ++ extras) x))) sc.pre en.pre
 
     entry_olds : (x : List ℕ) → IsAmong S.params x → entry_values.words (Named x) ≡ entry_values.words (Old x)

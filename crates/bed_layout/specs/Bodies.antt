@@ -3,7 +3,7 @@ use Rattle.std.specs.Prelude.{◌≡◌, ℕ, ◌+◌, ◌≤◌, true, false, n
 use Rattle.bed_lang.specs.declared.word.Name.{Name}
 use Rattle.bed_lang.specs.declared.word.Sort.TheVariants as sort
 use Rattle.bed_lang.specs.declared.statement.Stmt.{Stmt}
-use Rattle.bed_lang.specs.Values.{Named, Answer}
+use Rattle.bed_lang.specs.Values.{Named, Old}
 use Rattle.bed_table.specs.Layout.{is_among}
 use Rattle.bed_sat.specs.Assertions.{World}
 use Rattle.bed_sat.specs.Conditions.{path_at_entry, body_part}
@@ -21,11 +21,12 @@ use Rattle.bed_layout.specs.Keeping.{KeepsFunction}
 abbrev pub entry_block : ℕ → Block
 entry_block entry = record { label = entry; insts = SaveReturn ∷ []; jump = Fall (entry + 1) }
 
--- the variables that a signature may speak of: the answer and all names but the function's further locals, which are none of its own
+-- the variables that a signature may speak of: all but the function's further locals, which are none of its own, and the arguments as
+-- they were at entry
 abbrev pub own_variables : List Name → Scope
 own_variables further sort.Word (Named x) = not (is_among further x)
-own_variables further sort.Word Answer = true
-own_variables further sort.Word _ = false
+own_variables further sort.Word (Old x) = false
+own_variables further sort.Word _ = true
 own_variables further sort.Seq _ = true
 
 -- A function's locals are its signature's parameters and then these further ones, all different, and its frame has room for them. The
