@@ -1,10 +1,10 @@
 -- A walk along the edges of the graph is a walk along edges of a chain.
-use Rattle.std.proofs.Common.{◌≡◌, ℕ, ℤ, pos, negsuc, ◌+ℤ◌, ◌-ℤ◌, ◌≤ℤ◌, ◌<ℤ◌, zero, suc, ◌+◌, ◌<◌, ◌≤◌, Bool, true, false, ◌&&◌, ◌||◌, nat_le, nat_lt, List, [], ◌∷◌, map, length, Option, Some, None, refl, ap, sym, ◌∙◌, subst, arith, ◌⊎◌, inl, inr}
+use Rattle.std.proofs.Common.{◌≡◌, ℕ, pos, negsuc, ◌+ℤ◌, ◌-ℤ◌, ◌<ℤ◌, zero, suc, ◌+◌, ◌<◌, ◌≤◌, Bool, true, false, ◌&&◌, ◌||◌, nat_le, nat_lt, List, [], ◌∷◌, map, length, Some, refl, ap, sym, ◌∙◌, subst, arith, ◌⊎◌, inl, inr}
 use Rattle.std.specs.Prelude.{slice_index_or}
 use Rattle.std.proofs.lemmas.Int.{ints}
 use Rattle.std.proofs.lemmas.Bool.{and_from, lt-ltb, le-leb}
 use Rattle.bed_lang.specs.declared.form.Form.{Form}
-use Rattle.bed_lang.specs.declared.word.Word.{Word, Number}
+use Rattle.bed_lang.specs.declared.word.Word.{Word}
 use Rattle.bed_lang.specs.declared.logic.Pure.{Pure}
 use Rattle.bed_lang.specs.declared.logic.Pure.TheVariants.{Less, AtMost}
 use Rattle.bed_lang.specs.Forms.{word_form, same_form}
@@ -16,7 +16,7 @@ use Rattle.bed_deriv.specs.declared.derivation.Edge.{Edge}
 use Rattle.bed_deriv.specs.declared.derivation.Edge.TheVariants as edge
 use Rattle.bed_deriv.specs.declared.state.SymState.{SymState}
 use Rattle.bed_deriv.specs.Checks.{sequent}
-use Rattle.bed_deriv.specs.Chains.{Leg, left_word, closes, proves}
+use Rattle.bed_deriv.specs.Chains.{Leg, left_word, proves}
 use Rattle.bed_diff.specs.declared.constraint.Edge3.{Edge3}
 use Rattle.bed_diff.specs.Edges.{edge_at, IsWalk, total}
 use Rattle.bed_diff.specs.Decided.{IsChain}
@@ -25,7 +25,7 @@ use Rattle.bed_plain.specs.Plain.{Leaf}
 use Rattle.bed_plain.proofs.WalkLaws.{EdgeLeg, Walks, Starts, walk_accepted}
 use Rattle.bed_chain.specs.Graph.{forms_of, place_of, Link, edge_between, edges_of, labels_of}
 use Rattle.bed_chain.proofs.NodeLemmas.{one_place}
-use Rattle.bed_chain.proofs.LinkLemmas.{Each, IsForm, IsGood, IsLink}
+use Rattle.bed_chain.proofs.LinkLemmas.{Each, IsForm, IsLink}
 
 -- the edges at these places
 abbrev pub label_at : List Link → ℕ → Edge
@@ -38,13 +38,13 @@ module _ (s : SymState) (ws : List Word) where
   abbrev fs : List Form
   fs = forms_of ws
 
-  record At (xs : List Link) (i : ℕ) : Type 0 where
+  pub record At (xs : List Link) (i : ℕ) : Type 0 where
     pub item : Link
     pub good : IsLink fs s item
     pub edge_is : edge_at (edges_of fs xs) i ≡ edge_between fs item.leg
     pub label_is : label_at xs i ≡ item.edge
 
-  at_place : (xs : List Link) (i : ℕ) → i < length (edges_of fs xs) → Each (IsLink fs s) xs → At xs i
+  pub at_place : (xs : List Link) (i : ℕ) → i < length (edges_of fs xs) → Each (IsLink fs s) xs → At xs i
   at_place [] i lt all = absurd (omega arith)
   at_place (x ∷ xs) zero lt all = record { item = x; good = all.0; edge_is = refl; label_is = refl }
   at_place (x ∷ xs) (suc i) lt all = let a = at_place xs i (omega arith) all.1 in record { item = a.item; good = a.good; edge_is = a.edge_is; label_is = a.label_is }
@@ -116,7 +116,7 @@ module _ (s : SymState) (ws : List Word) where
         let to_at : place_of l.to fs ≡ (edge_at es i).to = sym (ap (λ (e : Edge3). e.to) x.edge_is) in
         let r = walk_along is (edge_at es i).to b walk.2 l.to ends.to_form ends.to_in to_at (up + l.up) (down + l.down) in
         let leads : EdgeLeg s f (label_at xs i) l =
-            subst (λ (e : Edge). EdgeLeg s f e l) (sym x.label_is) (subst (λ (z : Form). EdgeLeg s z x.item.edge l) (sym f_is) x.good.leg_is) in
+        subst (λ (e : Edge). EdgeLeg s f e l) (sym x.label_is) (subst (λ (z : Form). EdgeLeg s z x.item.edge l) (sym f_is) x.good.leg_is) in
         let same : same_form l.from f ≡ true = subst (λ (z : Form). same_form z f ≡ true) f_is (same_self f form) in
         let weight : (edge_at es i).weight ≡ (pos l.up -ℤ pos l.down) = ap (λ (e : Edge3). e.weight) x.edge_is in
         let sum = r.sum in

@@ -1,5 +1,6 @@
 -- Every edge of the graph is an edge of a chain, between nodes.
-use Rattle.std.proofs.Common.{◌≡◌, ℕ, zero, suc, ◌+◌, ◌-◌, ◌<◌, Bool, true, false, ◌&&◌, ◌==◌, not, if◌then◌else◌, List, [], ◌∷◌, ◌++◌, map, length, slice_get, Option, Some, None, refl, ap, sym, ◌∙◌, subst, arith}
+use Rattle.std.proofs.Common.{◌≡◌, ℕ, suc, ◌+◌, ◌-◌, ◌<◌, Bool, true, false, ◌&&◌, ◌==◌, not, if◌then◌else◌, List, [], ◌∷◌, ◌++◌, slice_get, Option, Some, None, refl, ap, sym, ◌∙◌, subst, arith}
+use Rattle.std.specs.Cmp.{unsigned_Decides}
 use Rattle.bed_lang.specs.declared.form.Form.{Form}
 use Rattle.bed_lang.specs.declared.word.Word.{Word, Number}
 use Rattle.bed_lang.specs.declared.logic.Pure.{Pure}
@@ -19,7 +20,8 @@ use Rattle.bed_deriv.specs.Chains.{Leg, leg, one_more, one_less, forth, back, co
 use Rattle.bed_plain.specs.Chained.{has_form}
 use Rattle.bed_plain.proofs.ChainLaws.{number_form}
 use Rattle.bed_plain.proofs.WalkLaws.{FactLeg, EdgeLeg}
-use Rattle.bed_chain.specs.Graph.{words_of, forms_of, Link, link, link_if, fact_links, facts_links, number_leg, top_leg, constant_links, node_links, nodes_links, all_links}
+use Rattle.bed_chain.proofs.RebuiltLemmas.{named_form}
+use Rattle.bed_chain.specs.Graph.{words_of, Link, link, link_if, fact_links, facts_links, number_leg, constant_links, named_word, least_links, node_links, nodes_links}
 
 -- ---- a fact of each item
 
@@ -30,6 +32,14 @@ Each P (x ∷ xs) = P x × Each P xs
 pub each_append : {A : Type 0} (P : A → Type 0) (xs ys : List A) → Each P xs → Each P ys → Each P (xs ++ ys)
 each_append P [] ys h g = g
 each_append P (x ∷ xs) ys h g = (h.0, each_append P xs ys h.1 g)
+
+-- facts are numbered from 1
+pub numbered_next : {A : Type 0} (xs : List A) (k : ℕ) → numbered xs (suc k) ≡ slice_get xs k
+numbered_next {A} xs k = by (suc k == 0) (unsigned_Decides (suc k) 0).0
+  where
+    by : (b : Bool) → (b ≡ true → suc k ≡ 0) → (if b then None else slice_get xs (suc k - 1)) ≡ slice_get xs k
+    by true zero' = absurd (let e = zero' refl in omega arith)
+    by false zero' = ap (slice_get xs) (omega arith)
 
 -- ---- legs between nodes
 
@@ -42,7 +52,7 @@ no_parts : (ps : List Part) → is_none ps ≡ true → ps ≡ []
 no_parts [] e = refl
 no_parts (p ∷ ps) e = absurd (cc)
 
-constant_form : (w : Word) → is_constant (word_form w) ≡ true → word_form (Number (word_form w).constant) ≡ word_form w
+pub constant_form : (w : Word) → is_constant (word_form w) ≡ true → word_form (Number (word_form w).constant) ≡ word_form w
 constant_form w e =
     let small = constant-small w in
     let wraps : wrap (word_form w).constant ≡ (word_form w).constant = omega arith in
@@ -206,45 +216,63 @@ module _ (fs : List Form) where
       constant_are_links w h = by (is_constant (word_form w)) refl where
         small : (word_form w).constant < 4294967296
         small = constant-small w
+
         zero_constant : is_constant (word_form (Number 0)) ≡ true
         zero_constant = subst (λ (f : Form). is_constant f ≡ true) (sym (number_form 0)) refl
+
         zero_small : (word_form (Number 0)).constant < 4294967296
         zero_small = constant-small (Number 0)
+
         by : (t : Bool) → is_constant (word_form w) ≡ t
             → Each IsLink (if t then link (edge.K 0) (number_leg (word_form w) 0) ∷ link (edge.K (word_form w).constant) (number_leg (word_form (Number 0)) (word_form w).constant) ∷ [] else [])
-        by true t =
-            (record {
-               leg_is = (t, refl);
-               ends = record { from_form = record { word = w; is = refl }; to_form = record { word = Number 0; is = refl }; from_in = h; to_in = zero_in; up_small = omega arith; down_small = omega arith };
-             },
-            (record {
-               leg_is = (zero_constant, refl);
-               ends = record {
-                 from_form = record { word = Number 0; is = refl };
-                 to_form = record { word = Number (word_form w).constant; is = refl };
-                 from_in = zero_in;
-                 to_in = constant_in t;
-                 up_small = (let m = zero_small in omega arith);
-                 down_small = omega arith;
-               };
-             }, tt)) where
+        by true t = (
+          record {
+            leg_is = (t, refl);
+            ends = record { from_form = record { word = w; is = refl }; to_form = record { word = Number 0; is = refl }; from_in = h; to_in = zero_in; up_small = (let m = small in omega arith); down_small = omega arith };
+          },
+          (
+            record {
+              leg_is = (zero_constant, refl);
+              ends = record {
+                from_form = record { word = Number 0; is = refl };
+                to_form = record { word = Number (word_form w).constant; is = refl };
+                from_in = zero_in;
+                to_in = constant_in t;
+                up_small = (let m = zero_small in omega arith);
+                down_small = omega arith;
+              };
+            },
+            tt,
+          ),
+        ) where
           constant_in : is_constant (word_form w) ≡ true → has_form (word_form (Number (word_form w).constant)) fs ≡ true
           constant_in t = subst (λ f. has_form f fs ≡ true) (sym (constant_form w t)) h
         by false t = tt
 
-      node_are_links : (w : Word) → Has w → known_word s.next w ≡ true → Each IsLink (node_links w)
-      node_are_links w h known =
-          (record {
-             leg_is = (known, refl);
-             ends = good (Number 0) w 0 0 zero_in h (omega arith) (omega arith);
-           },
-          (record {
-             leg_is = refl;
-             ends = good w (Number 4294967295) 0 0 h top_in (omega arith) (omega arith);
-           },
-          constant_are_links w h))
+      least_are_links : (w : Word) → Has w → Each IsLink (least_links s.next w)
+      least_are_links w h = by (known_word s.next (named_word s.next w)) refl where
+        by : (t : Bool) → known_word s.next (named_word s.next w) ≡ t
+            → Each IsLink (if t then link (edge.Z (named_word s.next w)) (leg (Number 0) (named_word s.next w) 0 0) ∷ [] else [])
+        by true known = (
+          record {
+            leg_is = (known, refl);
+            ends = good (Number 0) (named_word s.next w) 0 0 zero_in (subst (λ f. has_form f fs ≡ true) (sym (named_form s.next w)) h) (omega arith) (omega arith);
+          },
+          tt,
+        )
+        by false known = tt
 
-      pub nodes_are_links : (ws : List Word) → Each Has ws → Each (λ w. known_word s.next w ≡ true) ws → Each IsLink (nodes_links ws)
-      nodes_are_links [] h known = tt
-      nodes_are_links (w ∷ ws) h known =
-          each_append IsLink (node_links w) (nodes_links ws) (node_are_links w h.0 known.0) (nodes_are_links ws h.1 known.1)
+      node_are_links : (w : Word) → Has w → Each IsLink (node_links s.next w)
+      node_are_links w h =
+          each_append IsLink (least_links s.next w) _ (least_are_links w h) (
+            record {
+              leg_is = refl;
+              ends = good w (Number 4294967295) 0 0 h top_in (omega arith) (omega arith);
+            },
+            constant_are_links w h,
+          )
+
+      pub nodes_are_links : (ws : List Word) → Each Has ws → Each IsLink (nodes_links s.next ws)
+      nodes_are_links [] h = tt
+      nodes_are_links (w ∷ ws) h =
+          each_append IsLink (node_links s.next w) (nodes_links s.next ws) (node_are_links w h.0) (nodes_are_links ws h.1)

@@ -1,5 +1,5 @@
 -- The nodes of a graph: one word for each form, each form at its place.
-use Rattle.std.proofs.Common.{◌≡◌, ℕ, zero, suc, ◌+◌, ◌<◌, Bool, true, false, ◌&&◌, ◌||◌, ◌==◌, if◌then◌else◌, List, [], ◌∷◌, ◌++◌, map, length, slice_get, Option, Some, None, refl, ap, sym, ◌∙◌, subst, arith, inl, inr}
+use Rattle.std.proofs.Common.{◌≡◌, ℕ, zero, suc, ◌+◌, ◌<◌, Bool, true, false, ◌&&◌, ◌||◌, ◌==◌, if◌then◌else◌, List, [], ◌∷◌, ◌++◌, length, slice_get, Some, refl, ap, sym, ◌∙◌, subst, arith, ◌⊎◌, inl, inr}
 use Rattle.std.specs.Cmp.{unsigned_Decides}
 use Rattle.std.specs.Cmp.Lexicographic.{pointwise}
 use Rattle.std.proofs.lemmas.Bool.{and_parts, or_cases}
@@ -14,7 +14,8 @@ use Rattle.bed_lang.specs.SameFacts.{is_none, is_constant}
 use Rattle.bed_forms.proofs.SameForms.{same_key-decides, same_form-decides}
 use Rattle.bed_deriv.specs.Chains.{one_more, one_less}
 use Rattle.bed_plain.specs.Chained.{all_forms, has_form, different_forms}
-use Rattle.bed_chain.specs.Graph.{words_of, all_words, forms_of, with_node, with_nodes, nodes_of, place_from, place_of}
+use Rattle.bed_chain.specs.Tables.{AreNodes}
+use Rattle.bed_chain.specs.Graph.{all_words, forms_of, with_node, nodes_of, place_from, place_of}
 
 alike : (t u : Bool) → (t ≡ true → u ≡ true) → (u ≡ true → t ≡ true) → t ≡ u
 alike true true f g = refl
@@ -178,7 +179,7 @@ or_right : (b c d : Bool) → (c ≡ true → d ≡ true) → (b || c) ≡ true 
 or_right true c d go h = refl
 or_right false c d go h = go h
 
-came_from : (us : List Word) (f : Form) → has_form f (forms_of (nodes_of us)) ≡ true → has_form f (forms_of us) ≡ true
+pub came_from : (us : List Word) (f : Form) → has_form f (forms_of (nodes_of us)) ≡ true → has_form f (forms_of us) ≡ true
 came_from [] f h = h
 came_from (u ∷ us) f h = by (has_form (word_form u) (forms_of (nodes_of us))) h (came_from us f) where
   by : (b : Bool) → has_form f (forms_of (if b then nodes_of us else nodes_of us ++ u ∷ [])) ≡ true → (has_form f (forms_of (nodes_of us)) ≡ true → has_form f (forms_of us) ≡ true)
@@ -199,9 +200,9 @@ count_of_nodes (u ∷ us) =
     ap (λ b. length (if b then nodes_of us else nodes_of us ++ u ∷ []))
     (alike (has_form (word_form u) (forms_of (nodes_of us))) (has_form (word_form u) (forms_of us)) (came_from us (word_form u)) (kept us (word_form u)))
     ∙ by (has_form (word_form u) (forms_of us)) (count_of_nodes us) where
-  by : (b : Bool) → length (nodes_of us) ≡ different_forms (forms_of us) → length (if b then nodes_of us else nodes_of us ++ u ∷ []) ≡ (if b then different_forms (forms_of us) else 1 + different_forms (forms_of us))
-  by true count = count
-  by false count = length_more (nodes_of us) u ∙ ap (λ n. 1 + n) count
+      by : (b : Bool) → length (nodes_of us) ≡ different_forms (forms_of us) → length (if b then nodes_of us else nodes_of us ++ u ∷ []) ≡ (if b then different_forms (forms_of us) else 1 + different_forms (forms_of us))
+      by true count = count
+      by false count = length_more (nodes_of us) u ∙ ap (λ n. 1 + n) count
 
 -- ---- the words of facts have the forms of the definition
 
@@ -215,3 +216,56 @@ forms_are (Same s t ∷ ps) = forms_are ps
 forms_are (Member a s ∷ ps) = forms_are ps
 forms_are (NonMember a s ∷ ps) = forms_are ps
 forms_are (Code a name ∷ ps) = forms_are ps
+
+-- ---- each node stands at the place of its form
+
+place_stays : (fs gs : List Form) (n : ℕ) (f : Form) → has_form f fs ≡ true → place_from n f (fs ++ gs) ≡ place_from n f fs
+place_stays [] gs n f h = absurd (cc)
+place_stays (t ∷ fs) gs n f h = by (same_form f t) h (place_stays fs gs (n + 1) f) where
+  by : (b : Bool) → (b || has_form f fs) ≡ true → (has_form f fs ≡ true → place_from (n + 1) f (fs ++ gs) ≡ place_from (n + 1) f fs)
+      → (if b then n else place_from (n + 1) f (fs ++ gs)) ≡ (if b then n else place_from (n + 1) f fs)
+  by true h more = refl
+  by false h more = more h
+
+place_last : (fs : List Form) (n : ℕ) (f g : Form) → has_form f fs ≡ false → same_form f g ≡ true → place_from n f (fs ++ g ∷ []) ≡ n + length fs
+place_last [] n f g h same = ap (λ b. if b then n else n + 1) same ∙ omega arith
+place_last (t ∷ fs) n f g h same = by (same_form f t) h (place_last fs (n + 1) f g) where
+  by : (b : Bool) → (b || has_form f fs) ≡ false → (has_form f fs ≡ false → same_form f g ≡ true → place_from (n + 1) f (fs ++ g ∷ []) ≡ (n + 1) + length fs)
+      → (if b then n else place_from (n + 1) f (fs ++ g ∷ [])) ≡ n + suc (length fs)
+  by true h more = absurd (cc)
+  by false h more = let e = more h same in omega arith
+
+got : (ws : List Word) (u : Word) (k : ℕ) (w : Word) → slice_get (ws ++ u ∷ []) k ≡ Some w → (slice_get ws k ≡ Some w) ⊎ ((k ≡ length ws) × (w ≡ u))
+got [] u zero w e = inr (refl, cc)
+got [] u (suc k) w e = absurd (cc)
+got (x ∷ ws) u zero w e = inl e
+got (x ∷ ws) u (suc k) w e = elim (got ws u k w e) [ inl at ↦ inl at | inr last ↦ inr (ap suc last.0, last.1) ]
+
+pub has_own : (ws : List Word) (k : ℕ) (w : Word) → slice_get ws k ≡ Some w → has_form (word_form w) (forms_of ws) ≡ true
+has_own [] k w e = absurd (cc)
+has_own (x ∷ ws) zero w e = let same : x ≡ w = cc in subst (λ (z : Word). (same_form (word_form z) (word_form x) || has_form (word_form z) (forms_of ws)) ≡ true) same (ap (λ b. b || has_form (word_form x) (forms_of ws)) (form-self x))
+has_own (x ∷ ws) (suc k) w e = or_that (same_form (word_form w) (word_form x)) (has_form (word_form w) (forms_of ws)) (has_own ws k w e) where
+  or_that : (b c : Bool) → c ≡ true → (b || c) ≡ true
+  or_that true c h = refl
+  or_that false c h = h
+
+forms_long : (ws : List Word) → length (forms_of ws) ≡ length ws
+forms_long [] = refl
+forms_long (w ∷ ws) = ap suc (forms_long ws)
+
+pub nodes_are : (us : List Word) → AreNodes (nodes_of us)
+nodes_are [] = λ k w e. absurd (cc)
+nodes_are (u ∷ us) = by (has_form (word_form u) (forms_of (nodes_of us))) refl (nodes_are us) where
+  ws : List Word
+  ws = nodes_of us
+
+  by : (b : Bool) → has_form (word_form u) (forms_of ws) ≡ b → AreNodes ws → AreNodes (if b then ws else ws ++ u ∷ [])
+  by true h more = more
+  by false h more = λ k w e. elim (got ws u k w e) [
+    | inl at ↦
+        ap (place_of (word_form w)) (forms-append ws (u ∷ [])) ∙ place_stays (forms_of ws) (word_form u ∷ []) 0 (word_form w) (has_own ws k w at) ∙ more k w at
+    | inr last ↦
+        let w_is = last.1 in
+        subst (λ (z : Word). place_of (word_form z) (forms_of (ws ++ u ∷ [])) ≡ k) (sym w_is)
+        (ap (place_of (word_form u)) (forms-append ws (u ∷ [])) ∙ place_last (forms_of ws) 0 (word_form u) (word_form u) h (form-self u) ∙ (let long = forms_long ws in let at = last.0 in omega arith))
+  ]

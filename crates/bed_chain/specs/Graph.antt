@@ -1,14 +1,17 @@
 -- The graph of the difference constraints of a state: a node for each form, an edge for each leg of a chain.
-use Rattle.std.specs.Prelude.{ℕ, ◌+◌, ◌-◌, ℤ, pos, ◌-ℤ◌, if◌then◌else◌, List, [], ◌∷◌, ◌++◌, map, Option, Some, None}
+use Rattle.std.specs.Prelude.{ℕ, ◌+◌, ◌-◌, pos, ◌-ℤ◌, if◌then◌else◌, List, [], ◌∷◌, ◌++◌, map, Option, Some, None}
 use Rattle.bed_lang.specs.declared.form.Form.{Form}
 use Rattle.bed_lang.specs.declared.word.Word.{Word, Number}
 use Rattle.bed_lang.specs.declared.logic.Pure.{Pure}
-use Rattle.bed_lang.specs.declared.logic.Pure.TheVariants.{Equal, Unequal, Less, AtMost, Same, Member, NonMember, Code}
+use Rattle.bed_lang.specs.declared.logic.Pure.TheVariants.{Equal, Unequal, Less, AtMost}
 use Rattle.bed_lang.specs.Numbers.{wrap}
 use Rattle.bed_lang.specs.Forms.{word_form, same_form}
 use Rattle.bed_lang.specs.SameFacts.{is_constant}
 use Rattle.bed_deriv.specs.declared.derivation.Edge.{Edge}
 use Rattle.bed_deriv.specs.declared.derivation.Edge.TheVariants as edge
+use Rattle.bed_deriv.specs.declared.state.SymState.{SymState}
+use Rattle.bed_deriv.specs.Fresh.{known_word}
+use Rattle.bed_forms.specs.Rebuilt.{rebuilt_word}
 use Rattle.bed_deriv.specs.Chains.{Leg, leg, one_more, one_less, forth, back, exact_forth, exact_back, from_one_more, to_one_more, to_one_less, from_one_less}
 use Rattle.bed_diff.specs.declared.constraint.Edge3.{Edge3}
 use Rattle.bed_plain.specs.Chained.{has_form}
@@ -24,6 +27,10 @@ words_of _ = []
 abbrev pub all_words : List Pure → List Word
 all_words [] = Number 0 ∷ Number 4294967295 ∷ []
 all_words (p ∷ ps) = words_of p ++ all_words ps
+
+-- the two sides of a goal, and then those of the facts
+abbrev pub goal_words : Word → Word → List Pure → List Word
+goal_words a b ps = a ∷ b ∷ all_words ps
 
 -- ---- nodes: one word for each form
 
@@ -73,7 +80,7 @@ abbrev pub facts_links : ℕ → List Pure → List Link
 facts_links i [] = []
 facts_links i (p ∷ ps) = fact_links i p ++ facts_links (i + 1) ps
 
--- between a node and 0 and 4294967295; for a constant also the exact distance from 0, both ways
+-- between a node and 4294967295, and 0; for a constant also the exact distance from 0, both ways
 abbrev pub number_leg : Form → ℕ → Leg
 number_leg f n = record { from = f; to = word_form (Number n); up = f.constant - wrap n; down = wrap n - f.constant }
 
@@ -84,15 +91,23 @@ abbrev pub constant_links : Form → List Link
 constant_links f =
     if is_constant f then link (edge.K 0) (number_leg f 0) ∷ link (edge.K f.constant) (number_leg (word_form (Number 0)) f.constant) ∷ [] else []
 
-abbrev pub node_links : Word → List Link
-node_links w = link (edge.Z w) (leg (Number 0) w 0 0) ∷ link edge.H (top_leg (word_form w)) ∷ constant_links (word_form w)
+-- the word that the edge from 0 to a node names: the node's own one where it is known, else the same one written anew, of which no
+-- variable is left that its form hasn't
+abbrev pub named_word : ℕ → Word → Word
+named_word next w = if known_word next w then w else rebuilt_word w
 
-abbrev pub nodes_links : List Word → List Link
-nodes_links [] = []
-nodes_links (w ∷ ws) = node_links w ++ nodes_links ws
+abbrev pub least_links : ℕ → Word → List Link
+least_links next w = if known_word next (named_word next w) then link (edge.Z (named_word next w)) (leg (Number 0) (named_word next w) 0 0) ∷ [] else []
 
-abbrev pub all_links : List Pure → List Word → List Link
-all_links facts ws = facts_links 1 facts ++ nodes_links ws
+abbrev pub node_links : ℕ → Word → List Link
+node_links next w = least_links next w ++ link edge.H (top_leg (word_form w)) ∷ constant_links (word_form w)
+
+abbrev pub nodes_links : ℕ → List Word → List Link
+nodes_links next [] = []
+nodes_links next (w ∷ ws) = node_links next w ++ nodes_links next ws
+
+abbrev pub all_links : SymState → List Word → List Link
+all_links s ws = facts_links 1 s.facts ++ nodes_links s.next ws
 
 -- an edge between the places of its leg's ends
 abbrev pub edge_between : List Form → Leg → Edge3

@@ -1,2 +1,4 @@
 pub mod Graph
 pub mod Tables
+pub mod Answers
+pub mod Freed

@@ -2,4 +2,8 @@
 //! what is decided of them to the edges of the rule chain.
 #![tactic(auto)]
 
+mod graph;
+mod links;
 mod table;
+
+pub use graph::{at_most, cycle, less};

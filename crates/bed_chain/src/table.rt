@@ -1,9 +1,9 @@
 //! The nodes of a graph: one word for each form.
-ghost use Rattle.std.specs.Prelude.{◌≡◌, ◌∷◌, ◌++◌, [], map, length, IfOk, OnOk};
+ghost use Rattle.std.specs.Prelude.{◌≡◌, ◌∷◌, ◌++◌, [], map, length, ◌≤◌, IfOk, OnOk};
 ghost use Rattle.bed_lang.specs.Forms.{word_form};
 ghost use Rattle.bed_deriv.specs.Chains.{one_more, one_less};
 ghost use Rattle.bed_plain.specs.Chained.{has_form};
-ghost use Rattle.bed_chain.specs.Graph.{words_of, all_words, with_node, with_nodes, nodes_of, place_of};
+ghost use Rattle.bed_chain.specs.Graph.{words_of, all_words, goal_words, with_node, with_nodes, nodes_of, place_of};
 ghost use Rattle.bed_chain.specs.Tables.{IsTable};
 
 use bed_forms::word_form;
@@ -33,7 +33,8 @@ pub(crate) fn has_form(form: &Form, forms: &[Form]) -> bool
 
 /// The place of a form among these, or their number.
 pub(crate) fn place_of(form: &Form, forms: &[Form]) -> usize
-    ensures { result ≡ place_of form.now forms.now }
+    ensures place { result ≡ place_of form.now forms.now }
+    ensures within { result ≤ length forms.now }
 {
     let mut rest = forms;
     let mut place = 0usize;
@@ -142,11 +143,34 @@ pub(crate) fn table_of(alloc: Global, facts: &[Pure]) -> Result<Table, AllocErro
         words: List::new(alloc),
         forms: List::new(alloc),
     };
-    push_two(alloc, &mut table, &Word::Number(0), &Word::Number(4_294_967_295))?;
+    push_two(
+        alloc,
+        &mut table,
+        &Word::Number(0),
+        &Word::Number(4_294_967_295),
+    )?;
     let mut left = facts.len();
     while left > 0 {
         left -= 1;
         push_fact(alloc, &mut table, &facts[left])?;
     }
+    Ok(table)
+}
+
+/// The nodes of two words and of facts.
+///
+/// # Errors
+/// `AllocError` for want of memory.
+pub(crate) fn goal_table(
+    alloc: Global,
+    a: &Word,
+    b: &Word,
+    facts: &[Pure],
+) -> Result<Table, AllocError>
+    ensures table { IfOk result IsTable }
+    ensures words { IfOk result (λ r. r.words ≡ nodes_of (goal_words a.now b.now facts.now)) }
+{
+    let mut table = table_of(alloc, facts)?;
+    push_two(alloc, &mut table, a, b)?;
     Ok(table)
 }

@@ -20,6 +20,7 @@ use Rattle.bed_deriv.specs.declared.state.SymState.{SymState}
 use Rattle.bed_deriv.specs.declared.state.Sequent.{Sequent}
 use Rattle.bed_deriv.specs.Arguments.{numbered}
 use Rattle.bed_lang.specs.SameFacts.{is_constant}
+use Rattle.bed_deriv.specs.Fresh.{known_word}
 use Rattle.bed_deriv.specs.Checks.{Goals, Check, Needs, Given, Leaves, first_failure, outcome, sequent}
 use Rattle.bed_deriv.specs.Chains.{Leg, leg, forth, back, exact_forth, exact_back, from_one_more, to_one_more, to_one_less, from_one_less, one_more, one_less, constant_above_0, up_by, down_by, of_fact, edge, legs, known_edge, known_edges, left_word, chain_start, fact_start, goal_start, proves, closes, chain}
 use Rattle.bed_deriv.specs.Derives.{fact_table}
@@ -159,11 +160,11 @@ module _ (s : SymState) (v : Form → ℕ) (solves : Solves s v) where
       → first_failure (legs s es node up down go_on) ≡ Ok qs → Reaches node up down es go_on qs
   reaches [] known node up down go_on qs small e = (node, up, down, omega arith, e, λ h rs e2. e2)
   reaches (given.Edge x ∷ es) known node up down go_on qs small e =
-      let parts = and_parts (known_edge s x) (known_edges s es) known in
+      let there = and_parts (known_edge s x) (known_edges s es) known in
       let after = λ (k : Form → ℕ → ℕ → Goals) (l : Leg). Needs 3 (same_form l.from node) (legs s es l.to (up + l.up) (down + l.down) k) in
-      let (l, holds, small', e2, other) = leads node small x parts.0 (after go_on) qs e in
+      let (l, holds, small', e2, other) = leads node small x there.0 (after go_on) qs e in
       let (same, e3) = needs_ok 3 (same_form l.from node) (legs s es l.to (up + l.up) (down + l.down) go_on) qs e2 in
-      let (last, u, w, far, e4, others) = reaches es parts.1 l.to (up + l.up) (down + l.down) go_on qs small'.1 e3 in
+      let (last, u, w, far, e4, others) = reaches es there.1 l.to (up + l.up) (down + l.down) go_on qs small'.1 e3 in
       let alike = solves.alike l.from node same in (
         last,
         u,

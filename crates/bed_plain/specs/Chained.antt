@@ -12,8 +12,8 @@ use Rattle.bed_deriv.specs.declared.derivation.Edge.TheVariants as edge
 use Rattle.bed_deriv.specs.declared.state.SymState.{SymState}
 use Rattle.bed_lang.specs.SameFacts.{is_constant}
 use Rattle.bed_deriv.specs.Chains.{Leg, one_more, one_less, forth, back, exact_forth, exact_back, from_one_more, to_one_more, to_one_less, from_one_less}
-use Rattle.bed_deriv.specs.Arguments.{numbered}
 use Rattle.bed_deriv.specs.Fresh.{known_word}
+use Rattle.bed_deriv.specs.Arguments.{numbered}
 
 -- the forms of a comparison, with a + 1 and b - 1 of `a < b`
 abbrev pub forms_of : Pure → List Form
@@ -74,10 +74,9 @@ pub record FactHolds (v : Form → ℕ) (p : Pure) : Type 0 where
   pub by_r : LegHolds v (to_one_less p)
   pub by_s : LegHolds v (from_one_less p)
 
--- A value for each form, which solves all edges of the facts, and the edges k, z and h between all forms, of which z leads to known words
--- alone. What an answer of the decision
--- says of the forms that stand in a graph is carried on to every form: v of another constant is v of 0 and the constant, v of any other
--- form is v of 0.
+-- A value for each form, which solves all edges of the facts, the edges k and h between all forms, and the edges z to forms of words
+-- that the state knows. What an answer of the decision says of the forms that stand in a graph is carried on to every form: v of another
+-- constant is v of 0 and the constant, v of any other form is v of 0.
 abbrev pub zero_form : Form
 zero_form = word_form (Number 0)
 
