@@ -1,5 +1,5 @@
 -- What breaks no rule of names names no predicate that isn't declared.
-use Rattle.std.proofs.Common.{◌≡◌, ℕ, ◌+◌, Bool, true, false, not, ◌||◌, Option, Some, None, List, [], ◌∷◌, ◌++◌, map, refl, sym, ◌∙◌, ap, ap₂, subst}
+use Rattle.std.proofs.Common.{◌≡◌, ℕ, Bool, true, false, not, ◌||◌, Option, Some, None, List, [], ◌∷◌, ◌++◌, map, refl, sym, ◌∙◌, ap, subst}
 use Rattle.std.specs.Prelude.{◌&&◌, is_some, is_none}
 use Rattle.std.specs.List.{list_all}
 use Rattle.bed_lang.specs.declared.word.Name.{Name}
@@ -11,13 +11,13 @@ use Rattle.bed_lang.specs.declared.logic.Term.{Term}
 use Rattle.bed_lang.specs.declared.logic.Term.TheVariants as term
 use Rattle.bed_lang.specs.declared.logic.Assertion.{Assertion}
 use Rattle.bed_lang.specs.declared.module.Join.{Join}
-use Rattle.bed_lang.specs.declared.statement.Stmt.{Stmt, Stmt-F, fold-Stmt, roll-Stmt, ind-Stmt, fold-roll-Stmt}
+use Rattle.bed_lang.specs.declared.statement.Stmt.{Stmt, fold-Stmt, roll-Stmt, ind-Stmt, fold-roll-Stmt}
 use Rattle.bed_lang.specs.declared.statement.StmtKind.{StmtKind, StmtKind-F, fold-StmtKind, roll-StmtKind, map-StmtKind, fold-roll-StmtKind}
 use Rattle.bed_lang.specs.declared.condition.Decls.{Decls}
 use Rattle.bed_lang.specs.Lookups.{predicate_named}
 use Rattle.bed_sat.specs.Declarations.{atom_known, term_known, assertion_known, join_known, kind_known_step, statement_known_step, statement_known}
 use Rattle.bed_names.specs.declared.error.NameError.{NameError}
-use Rattle.bed_names.specs.declared.error.NameError.TheVariants.{Dead, MissingJoin, Unknown, Twice}
+use Rattle.bed_names.specs.declared.error.NameError.TheVariants.{Dead, Unknown}
 use Rattle.bed_names.specs.Faults.{fault_if, all_faults}
 use Rattle.bed_names.specs.Names.{sequences}
 use Rattle.bed_names.specs.Terms.{Visible, with_names, twice_faults, bind_names, term_faults, terms_faults, atom_faults, predicate_name_faults, assertion_faults, seq_faults, hints_faults}

@@ -1,44 +1,39 @@
 -- Modules that break no rule of names keep to what the linker's laws ask.
-use Rattle.std.proofs.Common.{◌≡◌, ℕ, zero, suc, ◌+◌, ◌<◌, ◌≤◌, Bool, true, false, not, ◌||◌, ◌⊎◌, inl, inr, IsTrue, Option, Some, None, List, [], ◌∷◌, ◌++◌, map, length, find, bytes_eq, Contains, refl, sym, ◌∙◌, ap, ap₂, subst, arith}
-use Rattle.std.specs.Prelude.{◌&&◌, is_some, is_none}
+use Rattle.std.proofs.Common.{◌≡◌, ℕ, zero, suc, Bool, true, false, not, ◌||◌, ◌⊎◌, inl, inr, IsTrue, List, [], ◌∷◌, ◌++◌, map, find, bytes_eq, Contains, refl, sym, ◌∙◌, ap, subst, arith}
+use Rattle.std.specs.Prelude.{is_some, is_none}
 use Rattle.std.specs.List.{list_all}
 use Rattle.std.proofs.lemmas.Bool.{cases_Bool}
-use Rattle.std.proofs.lemmas.List.{list_all-append}
+use Rattle.std.proofs.lemmas.List.Folds.{list_all-append}
 use Rattle.std.proofs.lemmas.List.Elements.{Contains-append_cases}
 use Rattle.bed_lang.specs.declared.word.Name.{Name}
 use Rattle.bed_lang.specs.declared.logic.Assertion.{Assertion}
 use Rattle.bed_lang.specs.declared.module.Signature.{Signature}
 use Rattle.bed_lang.specs.declared.module.Predicate.{Predicate}
 use Rattle.bed_lang.specs.declared.module.Function.{Function}
-use Rattle.bed_lang.specs.declared.module.Import.{Import}
 use Rattle.bed_lang.specs.declared.module.Module.{Module}
 use Rattle.bed_lang.specs.declared.condition.Decls.{Decls}
 use Rattle.bed_lang.specs.Declarations.{declarations, all_predicates}
 use Rattle.bed_lang.specs.Lookups.{signature_named, predicate_named}
-use Rattle.bed_lang.specs.Prelude.{prelude, lseg, lst}
-use Rattle.bed_lang.specs.Values.{Variable, Named}
+use Rattle.bed_lang.specs.Prelude.{prelude}
 use Rattle.bed_table.specs.Layout as layout
-use Rattle.bed_sat.specs.Written.{written}
 use Rattle.bed_sat.specs.ConditionLaws.{CodeIsSame}
-use Rattle.bed_sat.specs.Declarations.{assertion_known, signature_known, predicate_known, statement_known, signatures_known, predicates_known, bodies_known, module_known}
+use Rattle.bed_sat.specs.Declarations.{assertion_known, signature_known, predicate_known, statement_known, module_known}
 use Rattle.bed_sat.proofs.FrameLaws.{bytes_eq_is, bytes_eq_same}
-use Rattle.bed_table.specs.Code.{body_piece}
 use Rattle.bed_laws.specs.Activations.{IsAmong}
-use Rattle.bed_names.specs.declared.error.NameError.{NameError}
 use Rattle.bed_names.specs.declared.error.NameError.TheVariants.{Twice}
-use Rattle.bed_names.specs.Faults.{fault_if, all_faults, refusal}
+use Rattle.bed_names.specs.Faults.{fault_if, all_faults}
 use Rattle.bed_names.specs.Names.{is_among, words}
 use Rattle.bed_names.specs.Terms.{Visible, twice_after, twice_faults, bind_names, signature_name_faults, assertion_faults}
 use Rattle.bed_names.specs.Statements.{body_faults}
 use Rattle.bed_names.specs.Modules.{plain, signature_names, params_of, logical_of, inside, locals_room_faults, signature_faults, predicate_faults, import_faults, function_faults, faults_under, name_spaces_faults, faults}
 use Rattle.bed_names.specs.Resolved.{resolved, resolved_arg, resolved_assertion, resolved_signature, resolved_predicate, resolved_function}
 use Rattle.bed_names.proofs.RuleLaws.{faults_are_refused}
-use Rattle.bed_whole.specs.Programs.{site_in, IsRegular}
-use Rattle.bed_layout.specs.Bodies.{own_variables, IsScoped}
+use Rattle.bed_whole.specs.Programs.{IsRegular}
+use Rattle.bed_layout.specs.Bodies.{own_variables}
 use Rattle.bed_regular.specs.Regular as regular
 use Rattle.bed_regular.specs.Regular.{HasOwn, ScopedAreRegular}
-use Rattle.bed_fitting.specs.Fitting.{AreNamed, LinkedIsSound}
-use Rattle.bed_scoped.specs.Scoped.{AreScoped, ScopedAreNamed, ScopedIsSound}
+use Rattle.bed_fitting.specs.Fitting.{LinkedIsSound}
+use Rattle.bed_scoped.specs.Scoped.{ScopedAreNamed, ScopedIsSound}
 use Rattle.bed_scoped.proofs.KnownLemmas.{no_front, no_back, none_if, both_true, all_known, assertion_fine, body_fine}
 
 not_true : false ≡ true → ⊥
