@@ -4,8 +4,8 @@ use Rattle.std.specs.Prelude.{flat_map}
 use Rattle.std.specs.Option.{option_or}
 use Rattle.bed_lang.specs.declared.word.Name.{Name}
 use Rattle.bed_lang.specs.declared.word.Var.TheVariants as var
-use Rattle.bed_lang.specs.declared.word.Word.{Number}
-use Rattle.bed_lang.specs.declared.word.Seq.{Seq, App}
+use Rattle.bed_lang.specs.declared.word.Word.{Word, Number, Add}
+use Rattle.bed_lang.specs.declared.word.Seq.{Seq, Nil, Cons, App}
 use Rattle.bed_lang.specs.declared.logic.Assertion.{Assertion}
 use Rattle.bed_lang.specs.declared.logic.Term.{Term}
 use Rattle.bed_lang.specs.declared.module.Action.{Action}
@@ -25,14 +25,14 @@ use Rattle.bed_lang.specs.declared.statement.Stmt.{Stmt, roll-Stmt, ind-Stmt, fo
 use Rattle.bed_lang.specs.declared.statement.StmtKind.{StmtKind, StmtKind-F, roll-StmtKind, map-StmtKind, fold-roll-StmtKind}
 use Rattle.bed_lang.specs.Declarations.{declarations}
 use Rattle.bed_lang.specs.Lookups.{first_signature}
-use Rattle.bed_lang.specs.Prelude.{prelude}
+use Rattle.bed_lang.specs.Prelude.{name, word, sequence, segment, empty_segment, longer_segment, lseg, lst, prelude}
 use Rattle.bed_table.specs.ListLoops.{word_named, seq_named, word_of, list_invariant, not_yet, not_null, is_key, field_at}
 use Rattle.bed_sat.specs.Written.{unfold_at, fold_segment, fold_list, made_test, written}
 use Rattle.bed_sat.specs.ConditionLaws.{PathsAreSame}
 use Rattle.bed_sat.specs.Conditions.{Path, path_from, path_at_entry, Site, site_of, Part, acted, hinted, owed_from, in_order, part_step, met, loop, choice, list_loop, where_true, where_false, kind_part_step, kind_part, statement_part, body_part, function_conditions, conditions}
 use Rattle.bed_sat.proofs.ExtensionLaws.{found}
 use Rattle.bed_deriv.specs.Fresh.{every, known_word, known_seq, known_term, known_assertion, unfresh_signature, unfresh_predicate, unfresh_condition, AreUnfresh}
-use Rattle.bed_deriv.proofs.KnownLaws.{every-append, known-Number, known-Var, known-Label, known_seq-Var, known_seq-App}
+use Rattle.bed_deriv.proofs.KnownLaws.{every-append, known-Number, known-Var, known-Label, known-Add, known_seq-Var, known_seq-Nil, known_seq-Cons, known_seq-App}
 use Rattle.bed_unfresh.specs.Unfresh.{unfresh_join, unfresh_kind_step, unfresh_statement_step, unfresh_kind, unfresh_statement, unfresh_function, unfresh_module, DeclarationsAreUnfresh, ConditionsAreUnfresh}
 use Rattle.bed_unfresh.proofs.StatementLemmas.{both_true, front_true, back_true}
 
@@ -259,10 +259,43 @@ conditions_are_unfresh same m h c is =
     let rest = back_true (every unfresh_signature m.signatures) _ h in
     fine_at (conditions m) (functions_fine same m m.functions (front_true (every unfresh_signature m.signatures) _ h) (back_true (every unfresh_predicate m.predicates) _ rest)) c is
 
+-- the prelude's predicates
+word_known : (x : List ℕ) → known_word 0 (word x) ≡ true
+word_known x = known-Var 0 (var.Named (name x))
+
+sequence_known : (x : List ℕ) → known_seq 0 (sequence x) ≡ true
+sequence_known x = known_seq-Var 0 (var.Named (name x))
+
+segment_known : (p q : Word) (s : Seq) → known_word 0 p ≡ true → known_word 0 q ≡ true → known_seq 0 s ≡ true → known_term 0 (segment p q s) ≡ true
+segment_known p q s hp hq hs = both_true (known_word 0 p) _ hp (both_true (known_word 0 q) _ hq (both_true (known_seq 0 s) true hs refl))
+
+empty_known : known_assertion 0 empty_segment ≡ true
+empty_known =
+    both_true _ _ (both_true (known_word 0 (word (codes "p"))) (known_word 0 (word (codes "q"))) (word_known (codes "p")) (word_known (codes "q")))
+    (both_true _ true (both_true (known_seq 0 (sequence (codes "s"))) (known_seq 0 Nil) (sequence_known (codes "s")) (known_seq-Nil 0)) refl)
+
+longer_known : known_assertion 0 longer_segment ≡ true
+longer_known =
+    let p = word_known (codes "p") in
+    let v = word_known (codes "v") in
+    let next = known-Add 0 (word (codes "p")) (Number 4) ∙ both_true (known_word 0 (word (codes "p"))) (known_word 0 (Number 4)) p (known-Number 0 4) in
+    let list = known_seq-Cons 0 (word (codes "v")) (sequence (codes "t")) ∙ both_true (known_word 0 (word (codes "v"))) (known_seq 0 (sequence (codes "t"))) v (sequence_known (codes "t")) in
+    both_true _ _ (both_true (known_word 0 (word (codes "p"))) (known_word 0 (Number 0)) p (known-Number 0 0))
+    (both_true _ _ (both_true (known_seq 0 (sequence (codes "s"))) (known_seq 0 (Cons (word (codes "v")) (sequence (codes "t")))) (sequence_known (codes "s")) list)
+    (both_true _ _ (both_true (known_word 0 (word (codes "p"))) (known_word 0 (word (codes "v"))) p v)
+    (both_true _ _ (both_true (known_word 0 (Add (word (codes "p")) (Number 4))) (known_word 0 (word (codes "n"))) next (word_known (codes "n")))
+    (both_true _ true (segment_known (word (codes "n")) (word (codes "q")) (sequence (codes "t")) (word_known (codes "n")) (word_known (codes "q")) (sequence_known (codes "t"))) refl))))
+
+prelude_known : every unfresh_predicate prelude ≡ true
+prelude_known =
+    both_true (unfresh_predicate lseg) _ (both_true (known_assertion 0 empty_segment) _ empty_known (both_true (known_assertion 0 longer_segment) true longer_known refl))
+    (both_true (unfresh_predicate lst) true
+    (both_true _ true (both_true _ true (segment_known (word (codes "p")) (Number 0) (sequence (codes "s")) (word_known (codes "p")) (known-Number 0 0) (sequence_known (codes "s"))) refl) refl) refl)
+
 pub declarations_are_unfresh : DeclarationsAreUnfresh
 declarations_are_unfresh m h =
     let rest = back_true (every unfresh_signature m.signatures) _ h in
     record {
       signatures = front_true (every unfresh_signature m.signatures) _ h;
-      predicates = every-append unfresh_predicate prelude m.predicates refl (front_true (every unfresh_predicate m.predicates) _ rest);
+      predicates = every-append unfresh_predicate prelude m.predicates prelude_known (front_true (every unfresh_predicate m.predicates) _ rest);
     }

@@ -35,3 +35,7 @@ kind_is x k e = ap unfresh_kind (sym e) ∙ fold-roll-StmtKind Bool Bool unfresh
 pub body_is : (body : List Stmt) → every unfresh_statement body ≡ every (λ b. b) (map unfresh_statement body)
 body_is [] = refl
 body_is (s ∷ ss) = ap (λ b. unfresh_statement s && b) (body_is ss)
+
+-- the same, where what holds says of which it does
+pub and_so : {a b : Bool} → a ≡ true → b ≡ true → (a && b) ≡ true
+and_so {a} {b} ea eb = both_true a b ea eb

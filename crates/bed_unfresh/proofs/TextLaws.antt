@@ -22,11 +22,10 @@ use Rattle.bed_read.specs.declared.parts.Source.{Source}
 use Rattle.bed_read.specs.declared.parts.Source.TheVariants as source
 use Rattle.bed_read.specs.Trees.{word_of, added, joined, summed, word_argument, compared, membership, points_to, cell_at, assigned}
 use Rattle.bed_read.specs.Written.{N, Tree, written, written_rule, written_action}
-use Rattle.bed_read.specs.Written.N as n
 use Rattle.bed_deriv.specs.Fresh.{every, known_word, known_seq, known_arg, known_pure, known_term, known_assertion, unfresh_signature, unfresh_predicate}
 use Rattle.bed_deriv.proofs.KnownLaws.{known-Number, known-Var, known-Label, known-Add, known-Sub, known-Times, known_seq-Var, known_seq-Nil, known_seq-Cons, known_seq-App}
 use Rattle.bed_unfresh.specs.Unfresh.{unfresh_join, unfresh_kind_step, unfresh_kind, unfresh_statement, unfresh_function, unfresh_module, TextsAreUnfresh}
-use Rattle.bed_unfresh.proofs.StatementLemmas.{both_true, statement-kind, kind_is, body_is}
+use Rattle.bed_unfresh.proofs.StatementLemmas.{both_true, and_so, statement-kind, kind_is, body_is}
 
 -- ---- what is said of the tree of each nonterminal
 
@@ -38,47 +37,47 @@ SourceGood (source.Call c) = known_assertion 0 c.after ≡ true
 SourceGood _ = Unit {0}
 
 abbrev Good : (x : N) → Tree x → Type 0
-Good n.Module m = unfresh_module m ≡ true
-Good n.Signatures l = every unfresh_signature l ≡ true
-Good n.Signature S = unfresh_signature S ≡ true
-Good n.Predicates l = every unfresh_predicate l ≡ true
-Good n.Predicate p = unfresh_predicate p ≡ true
-Good (n.Cases k) l = every (known_assertion 0) l ≡ true
-Good n.Functions l = every unfresh_function l ≡ true
-Good n.Function f = unfresh_function f ≡ true
-Good (n.Body k) b = every unfresh_statement b.0 ≡ true
-Good (n.Statements k) l = every unfresh_statement l ≡ true
-Good (n.Assertion m) A = known_assertion 0 A ≡ true
-Good (n.Terms k) l = every (known_term 0) l ≡ true
-Good (n.Term m) t = known_term 0 t.1 ≡ true
-Good (n.PureTerm m) t = known_term 0 t.1 ≡ true
-Good (n.Block m) t = known_term 0 t.1 ≡ true
-Good (n.Pure k) p = known_pure 0 p ≡ true
-Good (n.CodeFact k) p = known_pure 0 p ≡ true
-Good (n.Word k) w = known_word 0 w ≡ true
-Good (n.Sum m k) p = PieceGood p
-Good (n.Sums j k) l = every (λ (b : Bool × Word). known_word 0 b.1) l ≡ true
-Good (n.Part m k) p = PieceGood p
-Good (n.Seq k) s = known_seq 0 s ≡ true
-Good (n.PlainSeq k) s = known_seq 0 s.1 ≡ true
-Good (n.Arg k) a = known_arg 0 a ≡ true
-Good (n.Args k) l = every (known_arg 0) l ≡ true
-Good (n.MoreArgs k) l = every (known_arg 0) l ≡ true
-Good (n.Statement k) s = unfresh_statement s ≡ true
-Good n.Assignment s = unfresh_statement s ≡ true
-Good n.Store s = unfresh_statement s ≡ true
-Good n.StoreByte s = unfresh_statement s ≡ true
-Good (n.If k) s = unfresh_statement s ≡ true
-Good (n.Else k) l = every unfresh_statement l ≡ true
-Good n.Join j = unfresh_join j ≡ true
-Good (n.While k) s = unfresh_statement s ≡ true
-Good n.Return s = unfresh_statement s ≡ true
-Good n.HintStatement s = unfresh_statement s ≡ true
-Good (n.Find k) s = unfresh_statement s ≡ true
-Good (n.Walk k) s = unfresh_statement s ≡ true
-Good n.Over o = (known_seq 0 o.seq ≡ true) × (known_assertion 0 o.keep ≡ true)
-Good n.Source s = SourceGood s
-Good n.Call c = known_assertion 0 c.after ≡ true
+Good N.Module m = unfresh_module m ≡ true
+Good N.Signatures l = every unfresh_signature l ≡ true
+Good N.Signature S = unfresh_signature S ≡ true
+Good N.Predicates l = every unfresh_predicate l ≡ true
+Good N.Predicate p = unfresh_predicate p ≡ true
+Good (N.Cases k) l = every (known_assertion 0) l ≡ true
+Good N.Functions l = every unfresh_function l ≡ true
+Good N.Function f = unfresh_function f ≡ true
+Good (N.Body k) b = every unfresh_statement b.0 ≡ true
+Good (N.Statements k) l = every unfresh_statement l ≡ true
+Good (N.Assertion m) A = known_assertion 0 A ≡ true
+Good (N.Terms k) l = every (known_term 0) l ≡ true
+Good (N.Term m) t = known_term 0 t.1 ≡ true
+Good (N.PureTerm m) t = known_term 0 t.1 ≡ true
+Good (N.Block m) t = known_term 0 t.1 ≡ true
+Good (N.Pure k) p = known_pure 0 p ≡ true
+Good (N.CodeFact k) p = known_pure 0 p ≡ true
+Good (N.Word k) w = known_word 0 w ≡ true
+Good (N.Sum m k) p = PieceGood p
+Good (N.Sums j k) l = every (λ (b : Bool × Word). known_word 0 b.1) l ≡ true
+Good (N.Part m k) p = PieceGood p
+Good (N.Seq k) s = known_seq 0 s ≡ true
+Good (N.PlainSeq k) s = known_seq 0 s.1 ≡ true
+Good (N.Arg k) a = known_arg 0 a ≡ true
+Good (N.Args k) l = every (known_arg 0) l ≡ true
+Good (N.MoreArgs k) l = every (known_arg 0) l ≡ true
+Good (N.Statement k) s = unfresh_statement s ≡ true
+Good N.Assignment s = unfresh_statement s ≡ true
+Good N.Store s = unfresh_statement s ≡ true
+Good N.StoreByte s = unfresh_statement s ≡ true
+Good (N.If k) s = unfresh_statement s ≡ true
+Good (N.Else k) l = every unfresh_statement l ≡ true
+Good N.Join j = unfresh_join j ≡ true
+Good (N.While k) s = unfresh_statement s ≡ true
+Good N.Return s = unfresh_statement s ≡ true
+Good N.HintStatement s = unfresh_statement s ≡ true
+Good (N.Find k) s = unfresh_statement s ≡ true
+Good (N.Walk k) s = unfresh_statement s ≡ true
+Good N.Over o = (known_seq 0 o.seq ≡ true) × (known_assertion 0 o.keep ≡ true)
+Good N.Source s = SourceGood s
+Good N.Call c = known_assertion 0 c.after ≡ true
 Good _ v = Unit {0}
 
 -- and of the value of a right side
@@ -150,149 +149,149 @@ in_body body g = sym (body_is body) ∙ g
 -- ---- the tree of each production
 
 step : (x : N) (v : Value Token Tree (written_rule x)) → GoodValue (written_rule x) v → Good x (written_action x v)
-step n.Module v g =
-    both_true (every unfresh_signature _) _ g.1.1.1.0 (both_true (every unfresh_predicate _) (every unfresh_function _) g.1.1.1.1.0 g.1.1.1.1.1.1)
-step n.Signatures (inl v) g = both_true (unfresh_signature v.0) (every unfresh_signature v.1) g.0 g.1
-step n.Signatures (inr v) g = refl
-step n.Signature v g = both_true (known_assertion 0 _) (known_assertion 0 _) g.1.1.1.1.1.1.1.1.0 g.1.1.1.1.1.1.1.1.1.1.0
-step n.Predicates (inl v) g = both_true (unfresh_predicate v.0) (every unfresh_predicate v.1) g.0 g.1
-step n.Predicates (inr v) g = refl
-step n.Predicate v g = both_true (known_assertion 0 _) (every (known_assertion 0) _) g.1.1.1.1.1.1.0 g.1.1.1.1.1.1.1.0
-step (n.Cases k) (inl v) g = both_true (known_assertion 0 _) (every (known_assertion 0) _) g.1.0 g.1.1
-step (n.Cases k) (inr v) g = refl
-step n.Functions (inl v) g = both_true (unfresh_function v.0) (every unfresh_function v.1) g.0 g.1
-step n.Functions (inr v) g = refl
-step n.Function v g = g.1.1.1.1.1.1
-step (n.Body k) v g = g.1.0
-step (n.Statements k) (inl v) g = both_true (unfresh_statement v.0) (every unfresh_statement v.1) g.0 g.1
-step (n.Statements k) (inr v) g = refl
-step (n.Assertion m) (inl v) g = both_true (known_term 0 _) (every (known_term 0) _) g.1.1.1.0 g.1.1.1.1
-step (n.Assertion m) (inr v) g = both_true (known_term 0 _) (every (known_term 0) _) g.0 g.1
-step (n.Terms k) (inl v) g = both_true (known_term 0 _) (every (known_term 0) _) g.1.0 g.1.1
-step (n.Terms k) (inr v) g = refl
-step (n.Term m) (inl v) g = refl
-step (n.Term m) (inr (inl v)) g = g
-step (n.Term m) (inr (inr (inl v))) g = g
-step (n.Term m) (inr (inr (inr (inl v)))) g = g.1.1.0
-step (n.Term m) (inr (inr (inr (inr (inl v))))) g = cell_good (word_of v.0) v.1.1 true g.0 g.1.1
-step (n.Term m) (inr (inr (inr (inr (inr v))))) g = cell_good (word_of v.0) v.1.1 false g.0 g.1.1
-step (n.PureTerm m) v g = g.1.0
-step (n.Block m) v g = both_true (known_word 0 _) (known_word 0 _) g.1.1.0 g.1.1.1.1.0
-step (n.Pure k) (inl v) g = compared_good v.0 v.1.1 v.1.0 g.0 g.1.1
-step (n.Pure k) (inr (inl v)) g = both_true (known_seq 0 _) (known_seq 0 _) g.0 g.1.1
-step (n.Pure k) (inr (inr (inl v))) g = member_good v.0 v.1.0 v.1.1 g.0 g.1.1
-step (n.Pure k) (inr (inr (inr v))) g = g
-step (n.CodeFact k) v g = g.1.1.0
-step (n.Word k) v g = g
-step (n.Sum m k) v g = summed_good v.0 v.1 g.0 g.1
-step (n.Sums j k) (inl v) g = both_true (known_word 0 _) (every (λ (b : Bool × Word). known_word 0 b.1) _) g.1.0 g.1.1
-step (n.Sums j k) (inr v) g = refl
-step (n.Part m k) (inl v) g = known-Number 0 v.1
-step (n.Part m k) (inr (inl v)) g = known-Var 0 (var.Named v)
-step (n.Part m k) (inr (inr (inl v))) g = known-Label 0 v.1
-step (n.Part m k) (inr (inr (inr (inl v)))) g = known-Var 0 _
-step (n.Part m k) (inr (inr (inr (inr (inl v))))) g = known-Var 0 _
-step (n.Part m k) (inr (inr (inr (inr (inr (inl v)))))) g = known-Times 0 v.1.0.1 v.1.1.1.0 ∙ g.1.1.1.0
-step (n.Part m k) (inr (inr (inr (inr (inr (inr v)))))) g = g.1.0
-step (n.Seq k) (inl v) g = known_seq-Var 0 (var.Named v)
-step (n.Seq k) (inr v) g = g
-step (n.PlainSeq k) (inl v) g = known_seq-Nil 0
-step (n.PlainSeq k) (inr (inl v)) g = known_seq-Cons 0 v.1.1.0 v.1.1.1.1.0 ∙ both_true (known_word 0 _) (known_seq 0 _) g.1.1.0 g.1.1.1.1.0
-step (n.PlainSeq k) (inr (inr v)) g = known_seq-App 0 v.1.1.0 v.1.1.1.1.0 ∙ both_true (known_seq 0 _) (known_seq 0 _) g.1.1.0 g.1.1.1.1.0
-step (n.Arg k) (inl v) g = argument_good v g
-step (n.Arg k) (inr (inl v)) g = refl
-step (n.Arg k) (inr (inr v)) g = g
-step (n.Args k) (inl v) g = both_true (known_arg 0 _) (every (known_arg 0) _) g.0 g.1
-step (n.Args k) (inr v) g = refl
-step (n.MoreArgs k) (inl v) g = both_true (known_arg 0 _) (every (known_arg 0) _) g.1.0 g.1.1
-step (n.MoreArgs k) (inr v) g = refl
-step (n.Statement k) (inl v) g = g
-step (n.Statement k) (inr (inl v)) g = g
-step (n.Statement k) (inr (inr (inl v))) g = g
-step (n.Statement k) (inr (inr (inr (inl v)))) g = g
-step (n.Statement k) (inr (inr (inr (inr (inl v))))) g = g
-step (n.Statement k) (inr (inr (inr (inr (inr (inl v)))))) g = g
-step (n.Statement k) (inr (inr (inr (inr (inr (inr (inl v))))))) g = g
-step (n.Statement k) (inr (inr (inr (inr (inr (inr (inr (inl v)))))))) g = g
-step (n.Statement k) (inr (inr (inr (inr (inr (inr (inr (inr v)))))))) g = g
-step n.Assignment v g = assigned_good v.0.at v.0 v.1.1.0 g.1.1.0
-step n.Store v g = kind_good v.0.at (StmtKind-F.Store v.1.0 v.1.1.1.1.0.1) _ (rolls-Store v.1.0 v.1.1.1.1.0.1) refl
-step n.StoreByte v g = kind_good v.0.at (StmtKind-F.StoreByte v.1.1.0 v.1.1.1.1.1.0.1) _ (rolls-StoreByte v.1.1.0 v.1.1.1.1.1.0.1) refl
-step (n.If k) v g =
+step N.Module v g =
+    and_so g.1.1.1.0 (and_so g.1.1.1.1.0 g.1.1.1.1.1.1)
+step N.Signatures (inl v) g = and_so g.0 g.1
+step N.Signatures (inr v) g = refl
+step N.Signature v g = and_so g.1.1.1.1.1.1.1.1.0 g.1.1.1.1.1.1.1.1.1.1.0
+step N.Predicates (inl v) g = and_so g.0 g.1
+step N.Predicates (inr v) g = refl
+step N.Predicate v g = and_so g.1.1.1.1.1.1.0 g.1.1.1.1.1.1.1.0
+step (N.Cases k) (inl v) g = and_so g.1.0 g.1.1
+step (N.Cases k) (inr v) g = refl
+step N.Functions (inl v) g = and_so g.0 g.1
+step N.Functions (inr v) g = refl
+step N.Function v g = g.1.1.1.1.1.1
+step (N.Body k) v g = g.1.0
+step (N.Statements k) (inl v) g = and_so g.0 g.1
+step (N.Statements k) (inr v) g = refl
+step (N.Assertion m) (inl v) g = and_so g.1.1.1.0 g.1.1.1.1
+step (N.Assertion m) (inr v) g = and_so g.0 g.1
+step (N.Terms k) (inl v) g = and_so g.1.0 g.1.1
+step (N.Terms k) (inr v) g = refl
+step (N.Term m) (inl v) g = refl
+step (N.Term m) (inr (inl v)) g = g
+step (N.Term m) (inr (inr (inl v))) g = g
+step (N.Term m) (inr (inr (inr (inl v)))) g = g.1.1.0
+step (N.Term m) (inr (inr (inr (inr (inl v))))) g = cell_good (word_of v.0) v.1.1 true g.0 g.1.1
+step (N.Term m) (inr (inr (inr (inr (inr v))))) g = cell_good (word_of v.0) v.1.1 false g.0 g.1.1
+step (N.PureTerm m) v g = g.1.0
+step (N.Block m) v g = and_so g.1.1.0 g.1.1.1.1.0
+step (N.Pure k) (inl v) g = compared_good v.0 v.1.1 v.1.0 g.0 g.1.1
+step (N.Pure k) (inr (inl v)) g = and_so g.0 g.1.1
+step (N.Pure k) (inr (inr (inl v))) g = member_good v.0 v.1.0 v.1.1 g.0 g.1.1
+step (N.Pure k) (inr (inr (inr v))) g = g
+step (N.CodeFact k) v g = g.1.1.0
+step (N.Word k) v g = g
+step (N.Sum m k) v g = summed_good v.0 v.1 g.0 g.1
+step (N.Sums j k) (inl v) g = and_so g.1.0 g.1.1
+step (N.Sums j k) (inr v) g = refl
+step (N.Part m k) (inl v) g = known-Number 0 v.1
+step (N.Part m k) (inr (inl v)) g = known-Var 0 (var.Named v)
+step (N.Part m k) (inr (inr (inl v))) g = known-Label 0 v.1
+step (N.Part m k) (inr (inr (inr (inl v)))) g = known-Var 0 _
+step (N.Part m k) (inr (inr (inr (inr (inl v))))) g = known-Var 0 _
+step (N.Part m k) (inr (inr (inr (inr (inr (inl v)))))) g = known-Times 0 v.1.0.1 v.1.1.1.0 ∙ g.1.1.1.0
+step (N.Part m k) (inr (inr (inr (inr (inr (inr v)))))) g = g.1.0
+step (N.Seq k) (inl v) g = known_seq-Var 0 (var.Named v)
+step (N.Seq k) (inr v) g = g
+step (N.PlainSeq k) (inl v) g = known_seq-Nil 0
+step (N.PlainSeq k) (inr (inl v)) g = known_seq-Cons 0 v.1.1.0 v.1.1.1.1.0 ∙ and_so g.1.1.0 g.1.1.1.1.0
+step (N.PlainSeq k) (inr (inr v)) g = known_seq-App 0 v.1.1.0 v.1.1.1.1.0 ∙ and_so g.1.1.0 g.1.1.1.1.0
+step (N.Arg k) (inl v) g = argument_good v g
+step (N.Arg k) (inr (inl v)) g = refl
+step (N.Arg k) (inr (inr v)) g = g
+step (N.Args k) (inl v) g = and_so g.0 g.1
+step (N.Args k) (inr v) g = refl
+step (N.MoreArgs k) (inl v) g = and_so g.1.0 g.1.1
+step (N.MoreArgs k) (inr v) g = refl
+step (N.Statement k) (inl v) g = g
+step (N.Statement k) (inr (inl v)) g = g
+step (N.Statement k) (inr (inr (inl v))) g = g
+step (N.Statement k) (inr (inr (inr (inl v)))) g = g
+step (N.Statement k) (inr (inr (inr (inr (inl v))))) g = g
+step (N.Statement k) (inr (inr (inr (inr (inr (inl v)))))) g = g
+step (N.Statement k) (inr (inr (inr (inr (inr (inr (inl v))))))) g = g
+step (N.Statement k) (inr (inr (inr (inr (inr (inr (inr (inl v)))))))) g = g
+step (N.Statement k) (inr (inr (inr (inr (inr (inr (inr (inr v)))))))) g = g
+step N.Assignment v g = assigned_good v.0.at v.0 v.1.1.0 g.1.1.0
+step N.Store v g = kind_good v.0.at (StmtKind-F.Store v.1.0 v.1.1.1.1.0.1) _ (rolls-Store v.1.0 v.1.1.1.1.0.1) refl
+step N.StoreByte v g = kind_good v.0.at (StmtKind-F.StoreByte v.1.1.0 v.1.1.1.1.1.0.1) _ (rolls-StoreByte v.1.1.0 v.1.1.1.1.1.0.1) refl
+step (N.If k) v g =
     kind_good v.0.at (StmtKind-F.If v.1.0 v.1.1.0.0 v.1.1.1.0 v.1.1.1.1) _ (rolls-If v.1.0 v.1.1.0.0 v.1.1.1.0 v.1.1.1.1)
-    (both_true (every (λ b. b) _) _ (in_body v.1.1.0.0 g.1.1.0) (both_true (every (λ b. b) _) (unfresh_join v.1.1.1.1) (in_body v.1.1.1.0 g.1.1.1.0) g.1.1.1.1))
-step (n.Else k) (inl v) g = g.1
-step (n.Else k) (inr v) g = refl
-step n.Join (inl v) g = g.1.0
-step n.Join (inr v) g = refl
-step (n.While k) v g =
+    (and_so (in_body v.1.1.0.0 g.1.1.0) (and_so (in_body v.1.1.1.0 g.1.1.1.0) g.1.1.1.1))
+step (N.Else k) (inl v) g = g.1
+step (N.Else k) (inr v) g = refl
+step N.Join (inl v) g = g.1.0
+step N.Join (inr v) g = refl
+step (N.While k) v g =
     kind_good v.0.at (StmtKind-F.While v.1.0 v.1.1.0.at v.1.1.1.0 v.1.1.1.1.0) _ (rolls-While v.1.0 v.1.1.0.at v.1.1.1.0 v.1.1.1.1.0)
-    (both_true (known_assertion 0 v.1.1.1.0) (every (λ b. b) _) g.1.1.1.0 (in_body v.1.1.1.1.0 g.1.1.1.1))
-step n.Return v g = kind_good v.0.at (StmtKind-F.Return v.1.0.1) _ (rolls-Return v.1.0.1) refl
-step n.HintStatement v g = kind_good v.0.at (StmtKind-F.Hint v.1.0) _ (rolls-Hint v.1.0) refl
-step (n.Find k) v g =
+    (and_so g.1.1.1.0 (in_body v.1.1.1.1.0 g.1.1.1.1))
+step N.Return v g = kind_good v.0.at (StmtKind-F.Return v.1.0.1) _ (rolls-Return v.1.0.1) refl
+step N.HintStatement v g = kind_good v.0.at (StmtKind-F.Hint v.1.0) _ (rolls-Hint v.1.0) refl
+step (N.Find k) v g =
     let o = v.1.1.1.1.1.1.0 in
     let h = g.1.1.1.1.1.1.0 in
     kind_good v.0.at (StmtKind-F.Find v.1.0 v.1.1.1.0 v.1.1.1.1.1.0.1 o.list o.seq o.seen o.rest o.keep v.1.1.1.1.1.1.1.0) _
     (rolls-Find v.1.0 v.1.1.1.0 v.1.1.1.1.1.0.1 o.list o.seq o.seen o.rest o.keep v.1.1.1.1.1.1.1.0)
-    (both_true (known_seq 0 o.seq) _ h.0 (both_true (known_assertion 0 o.keep) (every (λ b. b) _) h.1 (in_body v.1.1.1.1.1.1.1.0 g.1.1.1.1.1.1.1)))
-step (n.Walk k) v g =
+    (and_so h.0 (and_so h.1 (in_body v.1.1.1.1.1.1.1.0 g.1.1.1.1.1.1.1)))
+step (N.Walk k) v g =
     let o = v.1.1.1.1.0 in
     let h = g.1.1.1.1.0 in
     kind_good v.0.at (StmtKind-F.Walk v.1.0 v.1.1.1.0 o.list o.seq o.seen o.rest o.keep v.1.1.1.1.1.0) _
     (rolls-Walk v.1.0 v.1.1.1.0 o.list o.seq o.seen o.rest o.keep v.1.1.1.1.1.0)
-    (both_true (known_seq 0 o.seq) _ h.0 (both_true (known_assertion 0 o.keep) (every (λ b. b) _) h.1 (in_body v.1.1.1.1.1.0 g.1.1.1.1.1)))
-step n.Over v g = (g.1.1.1.0, g.1.1.1.1.1.1.1.1.1)
-step n.Source (inl v) g = tt
-step n.Source (inr (inl v)) g = tt
-step n.Source (inr (inr (inl v))) g = tt
-step n.Source (inr (inr (inr (inl v)))) g = tt
-step n.Source (inr (inr (inr (inr v)))) g = g
-step n.Call v g = g.1.1.1.1.1.1.1
-step n.NameList v g = tt
-step (n.Names w k) v g = tt
-step n.Reserving v g = tt
-step n.For v g = tt
-step (n.Bind m) v g = tt
-step n.Binds v g = tt
-step (n.MoreBinds k) v g = tt
-step n.BindList v g = tt
-step n.Sort v g = tt
-step n.Imports v g = tt
-step n.Import v g = tt
-step n.Export v g = tt
-step n.Locals v g = tt
-step n.Rel v g = tt
-step n.Membership v g = tt
-step n.Sign v g = tt
-step (n.HoleArg k) v g = tt
-step (n.HoleArgs k) v g = tt
-step (n.MoreHoleArgs k) v g = tt
-step n.Operand v g = tt
-step n.Operands v g = tt
-step n.MoreOperands v g = tt
-step n.Test v g = tt
-step n.Place v g = tt
-step n.Offset v g = tt
-step n.Op v g = tt
-step n.Callee v g = tt
-step n.Using v g = tt
-step n.Hints v g = tt
-step n.Hint v g = tt
-step n.PredicateHint v g = tt
-step n.At v g = tt
-step n.BlockHint v g = tt
-step n.CellHint v g = tt
-step n.FactHint v g = tt
-step (n.Nam m) v g = tt
-step (n.Num m) v g = tt
-step (n.NameTerm m) v g = tt
-step (n.StartTerm m) v g = tt
-step (n.Start m k) v g = tt
-step (n.Other m k) v g = tt
-step (n.Inner k) v g = tt
-step (n.Tail k) v g = tt
-step n.Arrow v g = tt
+    (and_so h.0 (and_so h.1 (in_body v.1.1.1.1.1.0 g.1.1.1.1.1)))
+step N.Over v g = (g.1.1.1.0, g.1.1.1.1.1.1.1.1.1)
+step N.Source (inl v) g = tt
+step N.Source (inr (inl v)) g = tt
+step N.Source (inr (inr (inl v))) g = tt
+step N.Source (inr (inr (inr (inl v)))) g = tt
+step N.Source (inr (inr (inr (inr v)))) g = g
+step N.Call v g = g.1.1.1.1.1.1.1
+step N.NameList v g = tt
+step (N.Names w k) v g = tt
+step N.Reserving v g = tt
+step N.For v g = tt
+step (N.Bind m) v g = tt
+step N.Binds v g = tt
+step (N.MoreBinds k) v g = tt
+step N.BindList v g = tt
+step N.Sort v g = tt
+step N.Imports v g = tt
+step N.Import v g = tt
+step N.Export v g = tt
+step N.Locals v g = tt
+step N.Rel v g = tt
+step N.Membership v g = tt
+step N.Sign v g = tt
+step (N.HoleArg k) v g = tt
+step (N.HoleArgs k) v g = tt
+step (N.MoreHoleArgs k) v g = tt
+step N.Operand v g = tt
+step N.Operands v g = tt
+step N.MoreOperands v g = tt
+step N.Test v g = tt
+step N.Place v g = tt
+step N.Offset v g = tt
+step N.Op v g = tt
+step N.Callee v g = tt
+step N.Using v g = tt
+step N.Hints v g = tt
+step N.Hint v g = tt
+step N.PredicateHint v g = tt
+step N.At v g = tt
+step N.BlockHint v g = tt
+step N.CellHint v g = tt
+step N.FactHint v g = tt
+step (N.Nam m) v g = tt
+step (N.Num m) v g = tt
+step (N.NameTerm m) v g = tt
+step (N.StartTerm m) v g = tt
+step (N.Start m k) v g = tt
+step (N.Other m k) v g = tt
+step (N.Inner k) v g = tt
+step (N.Tail k) v g = tt
+step N.Arrow v g = tt
 
 -- what a text derives
 derived : (g : Rhs N Which) (p : Marked Token Which) (v : Value Token Tree g) → Derives written g p v → GoodValue g v
@@ -304,4 +303,4 @@ derived _ _ _ (right a b p x d) = derived b p x d
 derived _ _ _ (expand x p v d) = step x v (derived (written_rule x) p v d)
 
 pub texts_are_unfresh : TextsAreUnfresh
-texts_are_unfresh text m (ts, lexed, is) = derived (ref n.Module) (unmarked ts) m is
+texts_are_unfresh text m (ts, lexed, is) = derived (ref N.Module) (unmarked ts) m is
