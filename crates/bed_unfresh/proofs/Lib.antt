@@ -1,0 +1,4 @@
+mod StatementLemmas
+pub mod TextLaws
+pub mod ResolvedLaws
+pub mod OwedLaws
