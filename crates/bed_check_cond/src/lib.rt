@@ -3,6 +3,7 @@
 #![tactic(auto)]
 
 mod actions;
+mod after;
 mod bytes;
 mod calls;
 mod compute;
@@ -10,13 +11,12 @@ mod condition;
 mod ends;
 mod facts;
 pub mod laws;
-mod onward;
 mod operands;
 mod point;
 mod rests;
 mod values;
 
+pub use after::onward;
 pub use bed_check_pure::Verdict;
 pub use condition::check;
-pub use onward::onward;
 pub use point::{Ahead, Aim, Left, Point};

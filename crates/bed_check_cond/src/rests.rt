@@ -7,8 +7,8 @@ ghost use Rattle.bed_check_pure.specs.Faults.{AnswersWalk};
 ghost use Rattle.bed_check_cond.specs.Points.{rest_of, rests_at};
 ghost use Rattle.bed_check_cond.specs.Stack.{rests_walk, size, children_size, rests_size, waiting, AnswersOpened, AnswersTurn};
 
+use crate::after::onward;
 use crate::facts::children_walked;
-use crate::onward::onward;
 use crate::point::{Ahead, Left, Point};
 use bed_check_pure::{Fault, Verdict};
 use bed_deriv::{Deriv, SymState};
