@@ -2,8 +2,11 @@
 use Rattle.std.proofs.Common.{◌≡◌, ℕ, ◌+◌, ◌≤◌, ◌<◌, Bool, true, false, ◌&&◌, ◌==◌, nat_lt, if◌then◌else◌, List, [], ◌∷◌, Option, Some, None, refl, ap, sym, ◌∙◌, subst, arith}
 use Rattle.std.proofs.lemmas.Bool.{and_parts, ltb-true, lt-ltb}
 use Rattle.bed_lang.specs.declared.form.Form.{Form}
+use Rattle.bed_lang.specs.declared.word.Word.{Word}
 use Rattle.bed_lang.specs.declared.logic.Pure.{Pure}
-use Rattle.bed_lang.specs.Forms.{same_form}
+use Rattle.bed_lang.specs.Forms.{word_form, same_form}
+use Rattle.bed_deriv.specs.declared.state.SymState.{SymState}
+use Rattle.bed_deriv.specs.Fresh.{known_word}
 use Rattle.bed_deriv.specs.Arguments.{numbered}
 use Rattle.bed_lang.specs.SameFacts.{is_constant}
 use Rattle.bed_plain.specs.Chained.{has_form, FactHolds, Solves, zero_form, top_form}
@@ -15,7 +18,7 @@ outside zero' f = if is_constant f && nat_lt f.constant 4294967296 then zero' + 
 abbrev pub carry : List Form → (Form → ℕ) → Form → ℕ
 carry forms value f = if has_form f forms then value f else outside (value zero_form) f
 
-module _ (forms : List Form) (value : Form → ℕ)
+module _ (s : SymState) (forms : List Form) (value : Form → ℕ)
     -- forms that are the same are in the graph together, and have one value there; the forms of 0 and 4294967295 are in it
     (together : (f g : Form) → same_form f g ≡ true → (has_form f forms ≡ has_form g forms) × (is_constant f ≡ is_constant g) × (f.constant ≡ g.constant))
     (alike : (f g : Form) → same_form f g ≡ true → value f ≡ value g)
@@ -23,7 +26,7 @@ module _ (forms : List Form) (value : Form → ℕ)
     -- the edges k, z and h between its forms
     (constants : (f : Form) → has_form f forms ≡ true → is_constant f ≡ true → value f ≡ value zero_form + f.constant)
     (top_far : value top_form ≡ value zero_form + 4294967295)
-    (least : (f : Form) → has_form f forms ≡ true → value zero_form ≤ value f)
+    (least : (w : Word) → known_word s.next w ≡ true → has_form (word_form w) forms ≡ true → value zero_form ≤ value (word_form w))
     (largest : (f : Form) → has_form f forms ≡ true → value f ≤ value top_form) where
   v : Form → ℕ
   v = carry forms value
@@ -32,8 +35,8 @@ module _ (forms : List Form) (value : Form → ℕ)
   inside f e = ap (λ b. if b then value f else outside (value zero_form) f) e
 
   -- the legs of the facts lie in the graph, so they hold under the values that are carried on where they hold in it
-  pub carried_solves : (facts : List Pure) → ((i : ℕ) (p : Pure) → numbered facts i ≡ Some p → FactHolds (carry forms value) p) → Solves facts (carry forms value)
-  carried_solves facts hold = record { alike = alike'; facts_hold = hold; constants = constants'; least = least'; largest = largest' } where
+  pub carried_solves : ((i : ℕ) (p : Pure) → numbered s.facts i ≡ Some p → FactHolds (carry forms value) p) → Solves s (carry forms value)
+  carried_solves hold = record { alike = alike'; facts_hold = hold; constants = constants'; least = least'; largest = largest' } where
     at_zero : carry forms value zero_form ≡ value zero_form
     at_zero = inside zero_form has_zero
 
@@ -73,11 +76,11 @@ module _ (forms : List Form) (value : Form → ℕ)
       by false out = away f out ∙ ap (λ b. if b && nat_lt f.constant 4294967296 then value zero_form + f.constant else value zero_form) is
           ∙ ap (λ b. if b then value zero_form + f.constant else value zero_form) test ∙ ap (λ n. n + f.constant) (sym at_zero)
 
-    least' : (f : Form) → carry forms value zero_form ≤ carry forms value f
-    least' f = by (has_form f forms) refl where
-      by : (b : Bool) → has_form f forms ≡ b → carry forms value zero_form ≤ carry forms value f
-      by true in' = let a = inside f in' in let b = least f in' in let c = at_zero in omega arith
-      by false out = let a = away f out in let b = bounds f in let c = at_zero in omega arith
+    least' : (w : Word) → known_word s.next w ≡ true → carry forms value zero_form ≤ carry forms value (word_form w)
+    least' w known = by (has_form (word_form w) forms) refl where
+      by : (b : Bool) → has_form (word_form w) forms ≡ b → carry forms value zero_form ≤ carry forms value (word_form w)
+      by true in' = let a = inside (word_form w) in' in let b = least w known in' in let c = at_zero in omega arith
+      by false out = let a = away (word_form w) out in let b = bounds (word_form w) in let c = at_zero in omega arith
 
     largest' : (f : Form) → f.constant < 4294967296 → carry forms value f ≤ carry forms value top_form
     largest' f small = by (has_form f forms) refl where

@@ -20,8 +20,9 @@ use Rattle.bed_deriv.specs.declared.state.SymState.{SymState}
 use Rattle.bed_deriv.specs.declared.state.Sequent.{Sequent}
 use Rattle.bed_deriv.specs.Arguments.{numbered}
 use Rattle.bed_lang.specs.SameFacts.{is_constant}
+use Rattle.bed_deriv.specs.Fresh.{known_word}
 use Rattle.bed_deriv.specs.Checks.{Goals, Check, Needs, Given, Leaves, first_failure, outcome, sequent}
-use Rattle.bed_deriv.specs.Chains.{Leg, leg, forth, back, exact_forth, exact_back, from_one_more, to_one_more, to_one_less, from_one_less, one_more, one_less, constant_above_0, up_by, down_by, of_fact, edge, legs, known_edges, left_word, chain_start, fact_start, goal_start, proves, closes, chain}
+use Rattle.bed_deriv.specs.Chains.{Leg, leg, forth, back, exact_forth, exact_back, from_one_more, to_one_more, to_one_less, from_one_less, one_more, one_less, constant_above_0, up_by, down_by, of_fact, edge, legs, known_edge, known_edges, left_word, chain_start, fact_start, goal_start, proves, closes, chain}
 use Rattle.bed_deriv.specs.Derives.{fact_table}
 use Rattle.bed_plain.specs.Chained.{LegHolds, FactHolds, Solves, Says, zero_form, top_form}
 use Rattle.bed_plain.specs.Plain.{Leaf}
@@ -48,7 +49,7 @@ number_form n = ap word_form (sym (rolls-Number n)) ∙ fold-roll-Word Form form
 
 -- ---- edges
 
-module _ (s : SymState) (v : Form → ℕ) (solves : Solves s.facts v) where
+module _ (s : SymState) (v : Form → ℕ) (solves : Solves s v) where
   -- an edge that is accepted: its leg holds under v, and it is accepted whatever follows at that leg
   abbrev Leads : Form → Edge → (Leg → Goals) → List Sequent → Type 1
   Leads node e go_on qs =
@@ -125,16 +126,16 @@ module _ (s : SymState) (v : Form → ℕ) (solves : Solves s.facts v) where
       solves.constants (word_form (Number n)) (small_form (Number n)) (subst (λ f. is_constant f ≡ true) (sym (number_form n)) refl)
       ∙ ap (λ (f : Form). v zero_form + f.constant) (number_form n)
 
-  pub leads : (node : Form) → IsSmall node → (e : Edge) (go_on : Leg → Goals) (qs : List Sequent) → first_failure (edge s node e go_on) ≡ Ok qs → Leads node e go_on qs
-  leads node small (F i) go_on qs e = by_fact i forth go_on qs f_tells e
-  leads node small (G i) go_on qs e = by_fact i back go_on qs g_tells e
-  leads node small (X i) go_on qs e = by_fact i exact_forth go_on qs x_tells e
-  leads node small (Y i) go_on qs e = by_fact i exact_back go_on qs y_tells e
-  leads node small (P i) go_on qs e = by_fact i from_one_more go_on qs p_tells e
-  leads node small (Q i) go_on qs e = by_fact i to_one_more go_on qs q_tells e
-  leads node small (R i) go_on qs e = by_fact i to_one_less go_on qs r_tells e
-  leads node small (S i) go_on qs e = by_fact i from_one_less go_on qs s_tells e
-  leads node small (K n) go_on qs e =
+  pub leads : (node : Form) → IsSmall node → (e : Edge) → known_edge s e ≡ true → (go_on : Leg → Goals) (qs : List Sequent) → first_failure (edge s node e go_on) ≡ Ok qs → Leads node e go_on qs
+  leads node small (F i) known go_on qs e = by_fact i forth go_on qs f_tells e
+  leads node small (G i) known go_on qs e = by_fact i back go_on qs g_tells e
+  leads node small (X i) known go_on qs e = by_fact i exact_forth go_on qs x_tells e
+  leads node small (Y i) known go_on qs e = by_fact i exact_back go_on qs y_tells e
+  leads node small (P i) known go_on qs e = by_fact i from_one_more go_on qs p_tells e
+  leads node small (Q i) known go_on qs e = by_fact i to_one_more go_on qs q_tells e
+  leads node small (R i) known go_on qs e = by_fact i to_one_less go_on qs r_tells e
+  leads node small (S i) known go_on qs e = by_fact i from_one_less go_on qs s_tells e
+  leads node small (K n) known go_on qs e =
       let l : Leg = record { from = node; to = word_form (Number n); up = node.constant - wrap n; down = wrap n - node.constant } in
       let (constant, e2) = needs_ok 3 (is_constant node) (go_on l) qs e in (
         l,
@@ -143,9 +144,9 @@ module _ (s : SymState) (v : Form → ℕ) (solves : Solves s.facts v) where
         e2,
         λ h rs e3. needs_so 3 (is_constant node) (h l) rs constant e3,
       )
-  leads node small (Z w) go_on qs e =
-      (leg (Number 0) w 0 0, (let o = solves.least (word_form w) in omega arith), (small_form (Number 0), small_form w), e, λ h rs e3. e3)
-  leads node small H go_on qs e =
+  leads node small (Z w) known go_on qs e =
+      (leg (Number 0) w 0 0, (let o = solves.least w known in omega arith), (small_form (Number 0), small_form w), e, λ h rs e3. e3)
+  leads node small H known go_on qs e =
       let l : Leg = record { from = node; to = word_form (Number 4294967295); up = 0; down = 0 } in
       (l, (let o = solves.largest node small in omega arith), (small, small_form (Number 4294967295)), e, λ h rs e3. e3)
 
@@ -155,14 +156,15 @@ module _ (s : SymState) (v : Form → ℕ) (solves : Solves s.facts v) where
       (last : Form) × (u w : ℕ) × (v node + up + w ≤ v last + down + u) × (first_failure (go_on last u w) ≡ Ok qs)
       × ((h : Form → ℕ → ℕ → Goals) (rs : List Sequent) → first_failure (h last u w) ≡ Ok rs → first_failure (legs s es node up down h) ≡ Ok rs)
 
-  pub reaches : (es : List DArg) (node : Form) (up down : ℕ) (go_on : Form → ℕ → ℕ → Goals) (qs : List Sequent) → IsSmall node
+  pub reaches : (es : List DArg) → known_edges s es ≡ true → (node : Form) (up down : ℕ) (go_on : Form → ℕ → ℕ → Goals) (qs : List Sequent) → IsSmall node
       → first_failure (legs s es node up down go_on) ≡ Ok qs → Reaches node up down es go_on qs
-  reaches [] node up down go_on qs small e = (node, up, down, omega arith, e, λ h rs e2. e2)
-  reaches (given.Edge x ∷ es) node up down go_on qs small e =
+  reaches [] known node up down go_on qs small e = (node, up, down, omega arith, e, λ h rs e2. e2)
+  reaches (given.Edge x ∷ es) known node up down go_on qs small e =
+      let there = and_parts (known_edge s x) (known_edges s es) known in
       let after = λ (k : Form → ℕ → ℕ → Goals) (l : Leg). Needs 3 (same_form l.from node) (legs s es l.to (up + l.up) (down + l.down) k) in
-      let (l, holds, small', e2, other) = leads node small x (after go_on) qs e in
+      let (l, holds, small', e2, other) = leads node small x there.0 (after go_on) qs e in
       let (same, e3) = needs_ok 3 (same_form l.from node) (legs s es l.to (up + l.up) (down + l.down) go_on) qs e2 in
-      let (last, u, w, far, e4, others) = reaches es l.to (up + l.up) (down + l.down) go_on qs small'.1 e3 in
+      let (last, u, w, far, e4, others) = reaches es there.1 l.to (up + l.up) (down + l.down) go_on qs small'.1 e3 in
       let alike = solves.alike l.from node same in (
         last,
         u,
@@ -171,10 +173,10 @@ module _ (s : SymState) (v : Form → ℕ) (solves : Solves s.facts v) where
         e4,
         λ h rs e5. other (after h) rs (needs_so 3 (same_form l.from node) (legs s es l.to (up + l.up) (down + l.down) h) rs same (others h rs e5)),
       )
-  reaches (given.Number m ∷ es) node up down go_on qs small e = absurd (cc)
-  reaches (given.Arg a ∷ es) node up down go_on qs small e = absurd (cc)
-  reaches (given.Pure p ∷ es) node up down go_on qs small e = absurd (cc)
-  reaches (given.Name x ∷ es) node up down go_on qs small e = absurd (cc)
+  reaches (given.Number m ∷ es) known node up down go_on qs small e = absurd (cc)
+  reaches (given.Arg a ∷ es) known node up down go_on qs small e = absurd (cc)
+  reaches (given.Pure p ∷ es) known node up down go_on qs small e = absurd (cc)
+  reaches (given.Name x ∷ es) known node up down go_on qs small e = absurd (cc)
 
   -- where a chain starts
   abbrev Begins : Pure → List DArg → (Form → Goals) → List Sequent → Type 0
@@ -235,7 +237,7 @@ module _ (s : SymState) (v : Form → ℕ) (solves : Solves s.facts v) where
 
 -- A chain for a goal is true of every solution of the edges: so where a solution is found that isn't as the goal says, there is no
 -- chain for it; and, since no solution is as an equation says, no negative cycle.
-pub chain_says : (d : Decls) (s : SymState) (v : Form → ℕ) → Solves s.facts v → (g : Pure) (args : List DArg) → Leaf d rule.Chain (sequent s g) args → Says v g
+pub chain_says : (d : Decls) (s : SymState) (v : Form → ℕ) → Solves s v → (g : Pure) (args : List DArg) → Leaf d rule.Chain (sequent s g) args → Says v g
 chain_says d s v solves g args accepted =
     let go = λ (first : Form). legs s args first 0 0 (λ last up down. Needs 3 (closes g first last up down) (Leaves [])) in
     let from = λ (x : Pure). chain_start s x args (λ first. legs s args first 0 0 (λ last up down. Needs 3 (closes x first last up down) (Leaves []))) in
@@ -243,6 +245,6 @@ chain_says d s v solves g args accepted =
     let (none, e1) = needs_ok 1 true (Needs 2 (known_edges s args) (Given 3 (Some g) from)) [] ok.0 in
     let (known, e2) = needs_ok 2 (known_edges s args) (Given 3 (Some g) from) [] e1 in
     let (first, small, e3) = begins s v solves g args go [] e2 in
-    let (last, u, w, far, e4, others) = reaches s v solves args first 0 0 (λ last up down. Needs 3 (closes g first last up down) (Leaves [])) [] small e3 in
+    let (last, u, w, far, e4, others) = reaches s v solves args known first 0 0 (λ last up down. Needs 3 (closes g first last up down) (Leaves [])) [] small e3 in
     let (is, e5) = needs_ok 3 (closes g first last u w) (Leaves []) [] e4 in
     closed s v solves g first last u w (omega arith) is

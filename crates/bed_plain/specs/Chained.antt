@@ -12,6 +12,7 @@ use Rattle.bed_deriv.specs.declared.derivation.Edge.TheVariants as edge
 use Rattle.bed_deriv.specs.declared.state.SymState.{SymState}
 use Rattle.bed_lang.specs.SameFacts.{is_constant}
 use Rattle.bed_deriv.specs.Chains.{Leg, one_more, one_less, forth, back, exact_forth, exact_back, from_one_more, to_one_more, to_one_less, from_one_less}
+use Rattle.bed_deriv.specs.Fresh.{known_word}
 use Rattle.bed_deriv.specs.Arguments.{numbered}
 
 -- the forms of a comparison, with a + 1 and b - 1 of `a < b`
@@ -73,20 +74,20 @@ pub record FactHolds (v : Form → ℕ) (p : Pure) : Type 0 where
   pub by_r : LegHolds v (to_one_less p)
   pub by_s : LegHolds v (from_one_less p)
 
--- A value for each form, which solves all edges of the facts, and the edges k, z and h between all forms. What an answer of the decision
--- says of the forms that stand in a graph is carried on to every form: v of another constant is v of 0 and the constant, v of any other
--- form is v of 0.
+-- A value for each form, which solves all edges of the facts, the edges k and h between all forms, and the edges z to forms of words
+-- that the state knows. What an answer of the decision says of the forms that stand in a graph is carried on to every form: v of another
+-- constant is v of 0 and the constant, v of any other form is v of 0.
 abbrev pub zero_form : Form
 zero_form = word_form (Number 0)
 
 abbrev pub top_form : Form
 top_form = word_form (Number 4294967295)
 
-pub record Solves (facts : List Pure) (v : Form → ℕ) : Type 0 where
+pub record Solves (s : SymState) (v : Form → ℕ) : Type 0 where
   pub alike : (f g : Form) → same_form f g ≡ true → v f ≡ v g
-  pub facts_hold : (i : ℕ) (p : Pure) → numbered facts i ≡ Some p → FactHolds v p
+  pub facts_hold : (i : ℕ) (p : Pure) → numbered s.facts i ≡ Some p → FactHolds v p
   pub constants : (f : Form) → f.constant < 4294967296 → is_constant f ≡ true → v f ≡ v zero_form + f.constant
-  pub least : (f : Form) → v zero_form ≤ v f
+  pub least : (w : Word) → known_word s.next w ≡ true → v zero_form ≤ v (word_form w)
   pub largest : (f : Form) → f.constant < 4294967296 → v f ≤ v top_form
 
 -- what such values say of a goal

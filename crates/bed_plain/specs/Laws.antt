@@ -21,4 +21,4 @@ PlainTreesAreAccepted =
 -- a goal that the rule chain closes is as every solution of the facts' constraints says
 abbrev pub ChainsAreTrue : Type 0
 ChainsAreTrue =
-    (d : Decls) (s : SymState) (v : Form → ℕ) → Solves s.facts v → (g : Pure) (args : List DArg) → Leaf d rule.Chain (sequent s g) args → Says v g
+    (d : Decls) (s : SymState) (v : Form → ℕ) → Solves s v → (g : Pure) (args : List DArg) → Leaf d rule.Chain (sequent s g) args → Says v g

@@ -1,5 +1,5 @@
 -- Trees by their parts, and how large they are.
-use Rattle.std.specs.Prelude.{ℕ, ◌+◌, max, List, [], ◌∷◌}
+use Rattle.std.specs.Prelude.{ℕ, ◌+◌, max, List, [], ◌∷◌, Option, Some, None}
 use Rattle.bed_deriv.specs.declared.derivation.Rule.{Rule}
 use Rattle.bed_deriv.specs.declared.derivation.DArg.{DArg}
 use Rattle.bed_deriv.specs.declared.derivation.Deriv.{Deriv, Deriv-F, roll-Deriv, fold-Deriv}
@@ -41,3 +41,8 @@ abbrev pub AllOf : {T : Type 0} → (T → Deriv → Type 0) → List T → List
 AllOf C [] [] = Unit {0}
 AllOf C (x ∷ xs) (t ∷ ts) = C x t × AllOf C xs ts
 AllOf C _ _ = ⊥
+
+-- what a search for a tree answers: a tree of this kind, or that there is none
+abbrev pub Answers : (Deriv → Type 0) → Option Deriv → Type 0
+Answers C (Some t) = C t
+Answers C None = (t : Deriv) → C t → ⊥
