@@ -14,9 +14,9 @@ use Rattle.bed_deriv.specs.declared.rest.Task.TheVariants.{Proves, Closes}
 use Rattle.bed_deriv.specs.Walk.{Table, Walked, Walk, and_then, walk_all, walk_below, walk_step, walk}
 use Rattle.bed_deriv.specs.Derives.{fact_table, proofs, rules}
 use Rattle.bed_search.specs.declared.ahead.Todo.{Todo}
-use Rattle.bed_search.specs.Trees.{Choice, node}
+use Rattle.bed_plain.specs.Trees.{AllOf, Choice, node}
 use Rattle.bed_search.specs.Given.{Gives, given_by, given_in, gives_behind}
-use Rattle.bed_search.specs.Procedure.{Ways, AllOf, ClosesFact, ClosesTask, IsNode, GoesBy, ClosesBy}
+use Rattle.bed_search.specs.Procedure.{Ways, ClosesFact, ClosesTask, IsNode, GoesBy, ClosesBy}
 
 -- ---- trees that a table accepts
 

@@ -8,8 +8,8 @@ use Rattle.bed_deriv.specs.declared.rest.Task.{Task}
 use Rattle.bed_deriv.specs.declared.rest.Task.TheVariants.{Proves, Closes}
 use Rattle.bed_deriv.specs.Derives.{rules}
 use Rattle.bed_search.specs.declared.tree.Measured.{Measured}
-use Rattle.bed_search.specs.Trees.{Choice, node, nodes, nesting, nodes_step, nesting_step, total, greatest}
-use Rattle.bed_search.specs.Procedure.{Ways, AllOf, ClosesFact, ClosesTask, IsNode}
+use Rattle.bed_plain.specs.Trees.{AllOf, Choice, node, nodes, nesting, nodes_step, nesting_step, total, greatest}
+use Rattle.bed_search.specs.Procedure.{Ways, ClosesFact, ClosesTask, IsNode}
 use Rattle.bed_search.specs.Answers.{IsLarge, HasLarge, IsRefused, AreLarge, HaveLarge, AreRefused, AnswersTree}
 use Rattle.bed_search.specs.Layers.{facts_among}
 use Rattle.bed_search.proofs.SteadyLaws.{steady}

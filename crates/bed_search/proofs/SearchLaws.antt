@@ -16,35 +16,31 @@ use Rattle.bed_search.specs.declared.ahead.Todo.{Todo}
 use Rattle.bed_search.specs.declared.tree.Measured.{Measured}
 use Rattle.bed_search.specs.declared.layers.Falsity.TheVariants.{Shown, TooLarge}
 use Rattle.bed_search.specs.declared.layers.Step.{Step}
-use Rattle.bed_search.specs.Trees.{Choice, node, nodes, nesting}
+use Rattle.bed_plain.specs.Trees.{AllOf, Choice, node, nodes, nesting}
 use Rattle.bed_search.specs.Given.{Gives, given_by, given_in, gives_behind}
-use Rattle.bed_search.specs.Procedure.{Ways, AllOf, ClosesFact, ClosesTask, IsNode, GoesBy, Goes, ClosesBy, one_is_zero}
-use Rattle.bed_search.specs.Answers.{IsLarge, HasLarge, IsRefused, AreRefused, IsMeasured, AnswersTree}
-use Rattle.bed_search.specs.Layers.{Refutes, PicksOnly, Opens, NoStep, AnswersNode, Done}
+use Rattle.bed_search.specs.Procedure.{Ways, ClosesFact, ClosesTask, IsNode, GoesBy, Goes, ClosesBy, one_is_zero}
+use Rattle.bed_search.specs.Answers.{IsLarge, HasLarge, IsRefused, HaveLarge, AreRefused, IsMeasured, AnswersTree}
+use Rattle.bed_search.specs.Layers.{Refutes, PicksOnly, Opens, NoStep, AnswersNode, AnswersTrees, Grown, Done}
 use Rattle.bed_search.proofs.SteadyLaws.{steady}
 use Rattle.bed_search.proofs.RefusedLaws.{nodes_of_node, nesting_of_node, total-append, greatest-append, length_all, first_refused, large_refused, prefix_refused, all-append, halves, facts_refused, node_refused, answers_as}
 
--- ---- the loop over what a step leaves
+-- ---- the loop over things that are to be closed in order
 
-closes-append : (ps qs : List Rest) → map Closes (ps ++ qs) ≡ map Closes ps ++ map Closes qs
-closes-append [] qs = refl
-closes-append (p ∷ ps) qs = ap (λ ts. Closes p ∷ ts) (closes-append ps qs)
-
-module _ (C : Task → Deriv → Type 0) (ps : List Rest) (old : List Deriv) (n k : ℕ) where
-  pub begun : Done C ps ps old old n k 0 0
+module _ {T : Type 0} (C : T → Deriv → Type 0) (xs : List T) (old : List Deriv) (n k : ℕ) where
+  pub begun : Done C xs xs old old n k 0 0
   begun = record { done = []; are = refl; grown = record { trees = []; are = tt; behind = sym (append-nil old); nodes_are = refl; nesting_is = refl; few = omega arith; small = omega arith } }
 
-  pub onward : (p : Rest) (more : List Rest) (new : List Deriv) (sum deepest : ℕ) (t : Measured) → Done C ps (p ∷ more) old new n k sum deepest
-      → C (Closes p) t.tree → IsMeasured t → t.nodes ≤ n - sum → t.nesting ≤ k
-      → Done C ps more old (new ++ t.tree ∷ []) n k (sum + t.nodes) (max deepest t.nesting)
-  onward p more new sum deepest t d is sized few small =
+  pub onward : (x : T) (more : List T) (new : List Deriv) (sum deepest : ℕ) (t : Measured) → Done C xs (x ∷ more) old new n k sum deepest
+      → C x t.tree → IsMeasured t → t.nodes ≤ n - sum → t.nesting ≤ k
+      → Done C xs more old (new ++ t.tree ∷ []) n k (sum + t.nodes) (max deepest t.nesting)
+  onward x more new sum deepest t d is sized few small =
       let g = d.grown in
       record {
-        done = d.done ++ p ∷ [];
-        are = d.are ∙ sym (append_assoc d.done (p ∷ []) more);
+        done = d.done ++ x ∷ [];
+        are = d.are ∙ sym (append_assoc d.done (x ∷ []) more);
         grown = record {
           trees = g.trees ++ t.tree ∷ [];
-          are = subst (λ ts. AllOf C ts (g.trees ++ t.tree ∷ [])) (sym (closes-append d.done (p ∷ []))) (all-append C (map Closes d.done) (Closes p ∷ []) g.trees (t.tree ∷ []) g.are (is, tt));
+          are = all-append C d.done (x ∷ []) g.trees (t.tree ∷ []) g.are (is, tt);
           behind = ap (λ (ts : List Deriv). ts ++ t.tree ∷ []) g.behind ∙ append_assoc old g.trees (t.tree ∷ []);
           nodes_are = (let e = total-append g.trees (t.tree ∷ []) in let s = sized.nodes_are in let a = g.nodes_are in omega arith);
           nesting_is = (let e = greatest-append g.trees (t.tree ∷ []) in let s = sized.nesting_is in let a = g.nesting_is in omega arith);
@@ -53,13 +49,17 @@ module _ (C : Task → Deriv → Type 0) (ps : List Rest) (old : List Deriv) (n 
         };
       }
 
-  pub stuck : (p : Rest) (more : List Rest) (new : List Deriv) (sum deepest : ℕ) → Done C ps (p ∷ more) old new n k sum deepest
-      → IsRefused C (Closes p) (n - sum) k → AreRefused C (map Closes ps) n k
-  stuck p more new sum deepest d refused =
+  pub stuck : (x : T) (more : List T) (new : List Deriv) (sum deepest : ℕ) → Done C xs (x ∷ more) old new n k sum deepest
+      → IsRefused C x (n - sum) k → AreRefused C xs n k
+  stuck x more new sum deepest d refused =
       let g = d.grown in
-      subst (λ ts. AreRefused C ts n k) (sym (ap (map Closes) d.are ∙ closes-append d.done (p ∷ more)))
-      (prefix_refused C (map Closes d.done) (Closes p ∷ map Closes more) g.trees n k (n - sum) g.are (let a = g.nodes_are in omega arith)
-      (first_refused C (Closes p) (map Closes more) (n - sum) k refused))
+      subst (λ ys. AreRefused C ys n k) (sym d.are)
+      (prefix_refused C d.done (x ∷ more) g.trees n k (n - sum) g.are (let a = g.nodes_are in omega arith)
+      (first_refused C x more (n - sum) k refused))
+
+  -- where nothing is left
+  pub all_done : (new : List Deriv) (sum deepest : ℕ) → Done C xs [] old new n k sum deepest → AnswersTrees C xs old new n k (Some (sum, deepest))
+  all_done new sum deepest d = subst (λ ys. Grown C ys old new n k (sum, deepest)) (sym (d.are ∙ append-nil d.done)) d.grown
 
 -- ---- a node over what a step proved and what it left
 
@@ -69,6 +69,25 @@ proofs-tasks w K [] [] are = tt
 proofs-tasks w K [] (t ∷ ts) are = are
 proofs-tasks w K (q ∷ qs) [] are = are
 proofs-tasks w K (q ∷ qs) (t ∷ ts) are = (are.0, proofs-tasks w K qs ts are.1)
+
+module _ (w : Ways) (K : Rest → Deriv → Type 0) where
+  closes-tasks : (rs : List Rest) (ts : List Deriv) → AllOf K rs ts → AllOf (ClosesTask w K) (map Closes rs) ts
+  closes-tasks [] [] are = tt
+  closes-tasks [] (t ∷ ts) are = are
+  closes-tasks (r ∷ rs) [] are = are
+  closes-tasks (r ∷ rs) (t ∷ ts) are = (are.0, closes-tasks rs ts are.1)
+
+  tasks-close : (rs : List Rest) (ts : List Deriv) → AllOf (ClosesTask w K) (map Closes rs) ts → AllOf K rs ts
+  tasks-close [] [] are = tt
+  tasks-close [] (t ∷ ts) are = are
+  tasks-close (r ∷ rs) [] are = are
+  tasks-close (r ∷ rs) (t ∷ ts) are = (are.0, tasks-close rs ts are.1)
+
+  rests_large : (rs : List Rest) (n k : ℕ) → HaveLarge K rs n k → HaveLarge (ClosesTask w K) (map Closes rs) n k
+  rests_large rs n k (ts, are, large) = (ts, closes-tasks rs ts are, large)
+
+  rests_refused : (rs : List Rest) (n k : ℕ) → AreRefused K rs n k → AreRefused (ClosesTask w K) (map Closes rs) n k
+  rests_refused rs n k refused ts are = rests_large rs n k (refused ts (tasks-close rs ts are))
 
 module _ (w : Ways) (r : Rest) (s : Step) (opens : Opens w r s) (K : Rest → Deriv → Type 0) where
   abbrev NodeOf : Rest → Deriv → Type 0
@@ -84,12 +103,13 @@ module _ (w : Ways) (r : Rest) (s : Step) (opens : Opens w r s) (K : Rest → De
   tasks = map Proves opens.facts ++ map Closes s.rests
 
   -- what it left has no small trees
-  pub left_refused : (n k : ℕ) → s.nodes < n → s.nesting < k → AreRefused C (map Closes s.rests) (n - 1 - s.nodes) (k - 1) → IsRefused NodeOf r n k
+  pub left_refused : (n k : ℕ) → s.nodes < n → s.nesting < k → AreRefused K s.rests (n - 1 - s.nodes) (k - 1) → IsRefused NodeOf r n k
   left_refused n k few small refused =
       let m = opens.nodes_are in
       subst (λ a. IsRefused NodeOf r a k) (omega arith) (subst (λ b. IsRefused NodeOf r (1 + (n - 1)) b) (omega arith)
       (node_refused w K r (s.rule, s.args) tasks (length tasks) opens.leaves (n - 1) (k - 1)
-      (prefix_refused C (map Proves opens.facts) (map Closes s.rests) s.proofs (n - 1) (k - 1) (n - 1 - s.nodes) proved (omega arith) refused)))
+      (prefix_refused C (map Proves opens.facts) (map Closes s.rests) s.proofs (n - 1) (k - 1) (n - 1 - s.nodes) proved (omega arith)
+      (rests_refused w K s.rests (n - 1 - s.nodes) (k - 1) refused))))
 
   -- a node over trees that close what it left
   pub node_closes : (ts : List Deriv) → AllOf C (map Closes s.rests) ts → NodeOf r (node s.rule s.args (s.proofs ++ ts))
@@ -115,10 +135,10 @@ module _ (w : Ways) (r : Rest) (s : Step) (opens : Opens w r s) (K : Rest → De
       (node s.rule s.args (s.proofs ++ h.1), node_closes h.1 h.3, large_proofs n k h.1 large)
 
   -- a node that is made or would be too large
-  pub node_answers : (n k : ℕ) (ts : List Deriv) (o : Option Measured) → AllOf C (map Closes s.rests) ts → AnswersNode o (node s.rule s.args (s.proofs ++ ts)) n k
+  pub node_answers : (n k : ℕ) (ts : List Deriv) (o : Option Measured) → AllOf K s.rests ts → AnswersNode o (node s.rule s.args (s.proofs ++ ts)) n k
       → AnswersTree NodeOf o r n k
-  node_answers n k ts None are large = large_refused NodeOf r n k (node s.rule s.args (s.proofs ++ ts)) (node_closes ts are) large
-  node_answers n k ts (Some u) are a = (subst (λ t. NodeOf r t) (sym a.0) (node_closes ts are), a.1, a.2, a.3)
+  node_answers n k ts None are large = large_refused NodeOf r n k (node s.rule s.args (s.proofs ++ ts)) (node_closes ts (closes-tasks w K s.rests ts are)) large
+  node_answers n k ts (Some u) are a = (subst (λ t. NodeOf r t) (sym a.0) (node_closes ts (closes-tasks w K s.rests ts are)), a.1, a.2, a.3)
 
 -- ---- one thing to do
 

@@ -4,8 +4,7 @@
 use Rattle.std.specs.Prelude.{◌≡◌, ℕ, ◌≤◌, ◌<◌, ◌⊎◌, List, map, Option, Some, None}
 use Rattle.bed_deriv.specs.declared.derivation.Deriv.{Deriv}
 use Rattle.bed_search.specs.declared.tree.Measured.{Measured}
-use Rattle.bed_search.specs.Trees.{nodes, nesting, total, greatest}
-use Rattle.bed_search.specs.Procedure.{AllOf}
+use Rattle.bed_plain.specs.Trees.{AllOf, nodes, nesting, total, greatest}
 
 module _ {T : Type 0} (C : T → Deriv → Type 0) where
   abbrev pub IsLarge : ℕ → ℕ → Deriv → Type 0

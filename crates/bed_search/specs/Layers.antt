@@ -14,9 +14,9 @@ use Rattle.bed_search.specs.declared.tree.Measured.{Measured}
 use Rattle.bed_search.specs.declared.layers.Falsity.{Falsity}
 use Rattle.bed_search.specs.declared.layers.Falsity.TheVariants.{Shown, TooLarge, Not}
 use Rattle.bed_search.specs.declared.layers.Step.{Step}
-use Rattle.bed_search.specs.Trees.{Choice, nodes, nesting, total, greatest}
+use Rattle.bed_plain.specs.Trees.{AllOf, Choice, nodes, nesting, total, greatest}
 use Rattle.bed_search.specs.Given.{Gives}
-use Rattle.bed_search.specs.Procedure.{Ways, ClosesFact, AllOf, one_is_zero}
+use Rattle.bed_search.specs.Procedure.{Ways, ClosesFact, one_is_zero}
 use Rattle.bed_search.specs.Answers.{IsMeasured, IsRefused, AreRefused}
 
 -- the facts among what a node leaves
@@ -62,22 +62,22 @@ abbrev pub AnswersNode : Option Measured → Deriv → ℕ → ℕ → Type 0
 AnswersNode None t n k = (n < nodes t) ⊎ (k < nesting t)
 AnswersNode (Some u) t n k = (u.tree ≡ t) × IsMeasured u × (u.nodes ≤ n) × (u.nesting ≤ k)
 
--- trees for rests in order, behind those of a list, with their sizes together
-pub record Grown (C : Task → Deriv → Type 0) (rs : List Rest) (old new : List Deriv) (n k : ℕ) (sums : ℕ × ℕ) : Type 0 where
+-- trees for things in order, behind those of a list, with their sizes together
+pub record Grown {T : Type 0} (C : T → Deriv → Type 0) (xs : List T) (old new : List Deriv) (n k : ℕ) (sums : ℕ × ℕ) : Type 0 where
   pub trees : List Deriv
-  pub are : AllOf C (map Closes rs) trees
+  pub are : AllOf C xs trees
   pub behind : new ≡ old ++ trees
   pub nodes_are : total (map nodes trees) ≡ sums.0
   pub nesting_is : greatest (map nesting trees) ≡ sums.1
   pub few : sums.0 ≤ n
   pub small : sums.1 ≤ k
 
-abbrev pub AnswersTrees : (Task → Deriv → Type 0) → List Rest → List Deriv → List Deriv → ℕ → ℕ → Option (ℕ × ℕ) → Type 0
-AnswersTrees C rs old new n k None = AreRefused C (map Closes rs) n k
-AnswersTrees C rs old new n k (Some sums) = Grown C rs old new n k sums
+abbrev pub AnswersTrees : {T : Type 0} → (T → Deriv → Type 0) → List T → List Deriv → List Deriv → ℕ → ℕ → Option (ℕ × ℕ) → Type 0
+AnswersTrees C xs old new n k None = AreRefused C xs n k
+AnswersTrees C xs old new n k (Some sums) = Grown C xs old new n k sums
 
--- the first of these rests have trees, and the others are left
-pub record Done (C : Task → Deriv → Type 0) (rs left : List Rest) (old new : List Deriv) (n k sum deepest : ℕ) : Type 0 where
-  pub done : List Rest
-  pub are : rs ≡ done ++ left
+-- the first of these things have trees, and the others are left
+pub record Done {T : Type 0} (C : T → Deriv → Type 0) (xs left : List T) (old new : List Deriv) (n k sum deepest : ℕ) : Type 0 where
+  pub done : List T
+  pub are : xs ≡ done ++ left
   pub grown : Grown C done old new n k (sum, deepest)

@@ -1,4 +1,3 @@
-pub mod Trees
 pub mod Given
 pub mod Ahead
 pub mod Procedure

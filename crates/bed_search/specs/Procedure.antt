@@ -16,7 +16,7 @@ use Rattle.bed_deriv.specs.declared.rest.Task.{Task}
 use Rattle.bed_deriv.specs.declared.rest.Task.TheVariants.{Proves, Closes}
 use Rattle.bed_deriv.specs.Derives.{rules}
 use Rattle.bed_search.specs.declared.ahead.Todo.{Todo}
-use Rattle.bed_search.specs.Trees.{Choice, node}
+use Rattle.bed_plain.specs.Trees.{Choice, AllOf, node}
 use Rattle.bed_search.specs.Given.{Gives, given_in, given_by, gives_behind}
 
 -- The ways of the procedure, for a function of declared things: when a tree closes a fact in a state, when a state is plainly false, and
@@ -31,12 +31,6 @@ pub record Ways : Type 1 where
 -- `1 = 0`, which holds in a false state alone
 abbrev pub one_is_zero : Pure
 one_is_zero = Equal (Number 1) (Number 0)
-
--- trees for things, in their order
-abbrev pub AllOf : {T : Type 0} → (T → Deriv → Type 0) → List T → List Deriv → Type 0
-AllOf C [] [] = Unit {0}
-AllOf C (x ∷ xs) (t ∷ ts) = C x t × AllOf C xs ts
-AllOf C _ _ = ⊥
 
 module _ (w : Ways) where
   abbrev pub ClosesFact : Sequent → Deriv → Type 0
